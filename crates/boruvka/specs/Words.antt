@@ -1,5 +1,5 @@
 -- The words of Borůvka in step.
-use Rattle.std.specs.Prelude.{ℕ, List, [], ◌∷◌, ◌++◌, Option, Some, None, codes, slice_index_or}
+use Rattle.std.specs.Prelude.{ℕ, ◌==◌, if◌then◌else◌, List, [], ◌∷◌, ◌++◌, Option, Some, None, codes, slice_index_or}
 use Rattle.ghs_graph.specs.declared.key.Key.{Key}
 use Rattle.peer_words.specs.declared.spoken.Touched.{Touched}
 use Rattle.peer_words.specs.declared.spoken.Touched.TheVariants.{NoPort, OnePort, AllPorts}
@@ -45,6 +45,19 @@ row_word names.NameHeard = codes "Name_heard"
 row_word names.ReportHeard = codes "Report_heard"
 row_word names.RootMoves = codes "Root_moves"
 
+-- by number, as the rules count them
+abbrev pub kind_word : ℕ → List ℕ
+kind_word k =
+    if k == 0
+    then codes "connect"
+    else (if k == 1
+    then codes "initiate"
+    else (if k == 2
+    then codes "name"
+    else (if k == 3
+    then codes "report"
+    else codes "changeroot")))
+
 abbrev pub level_said : ℕ → Said
 level_said l = record { name = codes "level"; value = Number l }
 
@@ -85,6 +98,7 @@ abbrev pub words : Words State Message
 words = record {
   name = codes "boruvka";
   says = says;
+  kind = kind_word;
   row = λ n k. row_word (row_name n k);
   variables = λ n. fragment_variables n.head ++ phase_variables n.head ++ search_variables n.head;
   mark = λ n p. mark_of n.ports p;

@@ -8,13 +8,20 @@
 //! lengths that the rules state (`Measured`). Its runs can be explored (`Explorable`): a face tells the states of a network's
 //! nodes apart, a copy is the same node, messages are compared as they are, on 12 nodes and 20 links no run sends more than
 //! 65,535 messages, and each run comes to its end. Its runs can be told (`Spoken`): `row_of` is the row by which a node reacts,
-//! and a change keeps the marks of all ports but those that it touches. Next: `boruvka_report`, the text of a run that has ended.
+//! a message has the name of its kind, and a change keeps the marks of all ports but those that it touches. Its runs can be shown
+//! on pages (`Viewed`). A run has ended where with each node one is joined that has halted, which is so just in silence with all
+//! awake (`Ends`), and its Branch links are then the minimum spanning forest (`FindsTree`). Next: `peer_report`, the text of a
+//! run that has ended.
 #![tactic(auto)]
 
 mod bits;
+mod bound;
 mod copy;
+mod ends;
 mod explorable;
 mod face;
+pub mod looks;
 pub mod protocol;
 pub mod row_name;
 mod spoken;
+mod viewed;

@@ -1,7 +1,7 @@
 //! The words of Borůvka in step.
 ghost use Rattle.std.specs.Prelude.{◌≡◌, ◌∷◌, ◌++◌, [], codes, Some, Option, IfOk};
 ghost use Rattle.peer_words.specs.declared.value.Value.TheVariants as values;
-ghost use Rattle.boruvka.specs.Words.{fragment_variables, mark_word, phase_variables, phase_word, search_variables, touched_of};
+ghost use Rattle.boruvka.specs.Words.{fragment_variables, kind_word, mark_word, phase_variables, phase_word, search_variables, touched_of};
 ghost use Rattle.peer_words.specs.Items.{items_of};
 
 use crate::protocol::Boruvka;
@@ -20,7 +20,7 @@ use std::alloc::AllocError;
 
 impl Spoken for Boruvka {
     ghost use Rattle.boruvka.specs.Words.{words as all_words, touched_by};
-    ghost use Rattle.boruvka.specs.Kept.{keeps};
+    ghost use Rattle.boruvka.specs.Kept.{keeps, named};
 
     ghost words = { all_words };
 
@@ -46,6 +46,10 @@ impl Spoken for Boruvka {
         }
     }
 
+    fn kind_name(kind: usize) -> Word {
+        kind_word(kind)
+    }
+
     fn row(node: &Node, work: &Work<Message>) -> Word {
         row_word(row_of(node, work))
     }
@@ -64,7 +68,25 @@ impl Spoken for Boruvka {
         touched_of(&change.port, &change.entry)
     }
 
+    ghost names_kinds = { named };
+
     ghost keeps_marks = { keeps };
+}
+
+fn kind_word(kind: usize) -> Word
+    ensures { result ≡ kind_word kind }
+{
+    if kind == 0 {
+        Word::of(b"connect")
+    } else if kind == 1 {
+        Word::of(b"initiate")
+    } else if kind == 2 {
+        Word::of(b"name")
+    } else if kind == 3 {
+        Word::of(b"report")
+    } else {
+        Word::of(b"changeroot")
+    }
 }
 
 /// A level that a message carries.

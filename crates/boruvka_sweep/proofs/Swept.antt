@@ -1,16 +1,27 @@
 -- The figures and the lines of runs.
-use Rattle.std.proofs.Common.{◌≡◌, ◌∙◌, ℕ, ◌+◌, List, ◌++◌, subst, ap}
+use Rattle.std.proofs.Common.{◌≡◌, ◌∙◌, ℕ, ◌+◌, List, ◌++◌, inl, inr, subst, ap}
 use Rattle.std.specs.Prelude.{Result, Ok, Err, IfOk}
 use Rattle.std.proofs.lemmas.List.{append_assoc}
 use Rattle.std.specs.declared.alloc.AllocError.{AllocError}
 use Rattle.ghs_graph.specs.Graph.{Shape}
 use Rattle.peer_network.specs.declared.event.Event.{Event}
 use Rattle.peer_net.specs.NetState.{NetState}
+use Rattle.peer_report.specs.Runs.{IsRunThatEnds}
+use Rattle.peer_report.specs.declared.run.RunEnd.{RunEnd}
+use Rattle.peer_report.specs.declared.run.RunEnd.TheVariants.{Ended, Stopped}
+use Rattle.boruvka.specs.Ended.{HasEnded}
+use Rattle.boruvka_node.specs.Boruvka.{boruvka}
 use Rattle.boruvka_sweep.specs.declared.figures.Figures.{Figures}
 use Rattle.boruvka_sweep.specs.declared.sweep.Setup.{Setup}
 use Rattle.boruvka_sweep.specs.Figures.{AreFigures}
 use Rattle.boruvka_sweep.specs.Line.{line_text}
 use Rattle.boruvka_sweep.specs.Sweep.{AreFiguresOf, AreLines, IsRunOf, NextLine}
+
+-- a run, however it has come to stand
+pub of_either : (setup : Setup) (seed : ℕ) (g : Shape) (es : List Event) (end : RunEnd) →
+    IsRunThatEnds boruvka HasEnded seed setup.wake setup.turns g es end → IsRunOf seed setup g es
+of_either setup seed g es Ended run = inl run
+of_either setup seed g es Stopped run = inr run
 
 -- the figures of the net n that the seed's run has left of a copy of the graph are that run's
 pub figures_of_run : (g copy : Shape) (setup : Setup) (seed : ℕ) (n m : NetState) (r : Result Figures AllocError) → n ≡ m → m.graph ≡ copy →

@@ -8,6 +8,7 @@ use Rattle.peer_network.specs.Network.{network_of}
 use Rattle.peer_lengths.specs.Chain.{longest_chain}
 use Rattle.peer_lengths.specs.Sends.{bits_sent, longest_sent}
 use Rattle.peer_lengths.specs.declared.lengths.Lengths.{Lengths}
+use Rattle.peer_machine.specs.Branches.{AreBranches}
 use Rattle.peer_machine.specs.Ledger.{in_all, waiting}
 use Rattle.peer_machine.specs.Net.{Net}
 use Rattle.peer_machine.specs.Run.{net_after}
@@ -15,8 +16,7 @@ use Rattle.boruvka_node.specs.Boruvka.{boruvka}
 use Rattle.boruvka_node.specs.State.{State}
 use Rattle.boruvka_node.specs.declared.message.Message.{Message}
 use Rattle.boruvka_protocol.specs.Bound.{bound_of}
-use Rattle.boruvka_report.specs.Branches.{AreBranches}
-use Rattle.boruvka_report.specs.Ended.{HasEnded}
+use Rattle.boruvka.specs.Ended.{HasEnded, marks_branch}
 use Rattle.boruvka_sweep.specs.declared.figures.Figures.{Figures}
 
 -- the messages: how many were sent, of all kinds and of each, and wait; and the bound that they keep to
@@ -30,7 +30,7 @@ pub record AreMessages (g : Shape) (w : Net State Message) (f : Figures) : Type 
 -- the weight of the Branch links
 pub record IsWeight (g : Shape) (w : Net State Message) (weight : ℕ) : Type 0 where
   pub branches : List Key
-  pub all : AreBranches (network_of g) w branches
+  pub all : AreBranches marks_branch (network_of g) w branches
   pub sum : weight ≡ total_weight branches
 
 -- how long the run of some events is: its longest chain, its bits, and its longest message

@@ -2,7 +2,9 @@
 use Rattle.std.specs.Prelude.{◌≡◌, ◌⊎◌, ℕ, ◌+◌, ◌-◌, List, [], ◌++◌}
 use Rattle.ghs_graph.specs.Graph.{Shape}
 use Rattle.peer_network.specs.declared.event.Event.{Event}
-use Rattle.boruvka_runs.specs.Runs.{IsStopped, IsWholeRun}
+use Rattle.boruvka.specs.Ended.{HasEnded}
+use Rattle.boruvka_node.specs.Boruvka.{boruvka}
+use Rattle.peer_report.specs.Runs.{IsStopped, IsWholeRun}
 use Rattle.boruvka_sweep.specs.declared.figures.Figures.{Figures}
 use Rattle.boruvka_sweep.specs.declared.line.TheConstants.{HEAD_LINE}
 use Rattle.boruvka_sweep.specs.declared.sweep.Setup.{Setup}
@@ -11,7 +13,8 @@ use Rattle.boruvka_sweep.specs.Line.{line_text}
 
 -- the seed's run, which has ended or has used its turns
 abbrev pub IsRunOf : ℕ → Setup → Shape → List Event → Type 0
-IsRunOf seed setup g events = IsWholeRun seed setup.wake setup.turns g events ⊎ IsStopped seed setup.wake setup.turns g events
+IsRunOf seed setup g events =
+    IsWholeRun boruvka HasEnded seed setup.wake setup.turns g events ⊎ IsStopped boruvka HasEnded seed setup.wake setup.turns g events
 
 -- the figures of that run
 pub record AreFiguresOf (g : Shape) (setup : Setup) (seed : ℕ) (f : Figures) : Type 0 where

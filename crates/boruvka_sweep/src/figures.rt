@@ -3,13 +3,13 @@ ghost use Rattle.std.specs.Prelude.{IfOk};
 ghost use Rattle.boruvka_sweep.specs.Figures.{AreFigures};
 
 use boruvka::protocol::Boruvka;
-use boruvka_report::bound::message_bound;
-use boruvka_report::branches::branches;
-use boruvka_report::ended::net_ended;
-use boruvka_report::report_text::in_total;
 use ghs_report::weight::total_weight;
 use peer_lengths::lengths::{Lengths, lengths_of};
+use peer_machine::protocol::Protocol;
+use peer_net::ledger::in_total;
 use peer_net::net::Net;
+use peer_report::branches::branches;
+use peer_report::ended::net_ended;
 use std::alloc::{AllocError, Global};
 
 /// How a run stands, in numbers.
@@ -46,14 +46,15 @@ pub fn figures_of(alloc: Global, net: &Net<Boruvka>) -> Result<Figures, AllocErr
     let graph = net.graph();
     let lengths = lengths_of::<Boruvka>(alloc, graph, net.trace())?;
     let tree = branches(alloc, net)?;
-    let most = message_bound(graph);
+    let most = Boruvka::bound_of(graph);
     let ledger = net.ledger();
     let sent = ledger.sent;
+    let total = in_total(sent) as u64;
     Ok(Figures {
         nodes: graph.nodes(),
         links: graph.links(),
         events: net.trace().len() as u64,
-        sent: in_total(sent),
+        sent: total,
         kinds: [sent[0], sent[1], sent[2], sent[3], sent[4]],
         queued: ledger.queued,
         bound: most,

@@ -5,7 +5,7 @@
 //! its Branch links, and whether it has ended. `figures_of` has the figures of a net.
 //!
 //! A run that has used its turns has a line like the others. Each run is played twice, the second time for its lengths. Next:
-//! `boruvka_runs`, which makes the runs, and `ghs_sweep`, which does the same for GHS.
+//! `peer_report`, which makes the runs, and `ghs_sweep`, which does the same for GHS.
 #![tactic(auto)]
 
 pub mod figures;

@@ -4,9 +4,10 @@ ghost use Rattle.std.specs.Prelude.{◌≡◌, ◌+◌, ◌-◌, ◌++◌, ◌<�
 
 use crate::figures::{Figures, figures_of};
 use crate::line::{HEAD_LINE, put_line};
-use boruvka_runs::run::{Ran, run_by_seed};
+use boruvka::protocol::Boruvka;
 use ghs_graph::graph::Graph;
 use peer_network::wake_set::WakeSet;
+use peer_report::run::run_by_seed;
 use std::alloc::{AllocError, Global};
 
 /// What the runs of a sweep have in common.
@@ -71,8 +72,7 @@ pub fn figures_of_seed(
 ) -> Result<Figures, AllocError>
     ensures { IfOk result (λ f. AreFiguresOf graph.now setup seed f) }
 {
-    match run_by_seed(alloc, graph.copy(alloc)?, setup.wake, seed, setup.turns)? {
-        Ran::Ended(world) => figures_of(alloc, world.net()),
-        Ran::Stopped(world) => figures_of(alloc, world.net()),
-    }
+    let copy = graph.copy(alloc)?;
+    let (world, _) = run_by_seed::<Boruvka>(alloc, copy, setup.wake, seed, setup.turns)?;
+    figures_of(alloc, world.net())
 }

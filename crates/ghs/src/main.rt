@@ -9,9 +9,8 @@
 #![tactic(auto)]
 
 ghost use Rattle.ghs.specs.Status.{IsStatusOf, IsStatusOfJob, status_unread};
-ghost use Rattle.ghs_cli.specs.Ending.{IsBoundedTask};
 ghost use Rattle.ghs_cli.specs.Fault.{status_of};
-ghost use Rattle.ghs_cli.specs.Serving.{IfStored, IsUnread, Serves, is_write};
+ghost use Rattle.ghs_cli.specs.Serving.{IfStored, IsBoundedTask, IsUnread, Serves, is_write};
 ghost use Rattle.ghs_cli.specs.declared.fault.ServeFault.{ServeFault};
 ghost use Rattle.ghs_commands.specs.Job.{AreSweepLimits, IsWithinLimits, kinds_of};
 ghost use Rattle.std.specs.IoError.{error_kind};
@@ -25,6 +24,7 @@ use ghs_commands::job::{Job, JobFault, SweepOptions, Task, read_job};
 use ghs_commands::values::is_dash;
 use ghs_gr::device::{Device, Source};
 use ghs_report::write_out::write_out;
+use peer_trace::protocol::Protocol;
 use std::alloc::{AllocError, Global};
 use std::env::Args;
 use std::fs::File;
@@ -106,9 +106,10 @@ fn fulfil<R: Runtime + AllocGlobal + Threads + Wait + Sync>(rt: &R, alloc: Globa
     ensures { IsStatusOfJob result }
 {
     match &job.task {
-        Task::Sweep(options) if !job.networks.is_empty() => {
-            sweep(rt, alloc, options, &job.networks)
-        }
+        Task::Sweep {
+            protocol: Protocol::Ghs,
+            options,
+        } if !job.networks.is_empty() => sweep(rt, alloc, options, &job.networks),
         _ => finish(rt, do_job(rt, alloc, job)),
     }
 }

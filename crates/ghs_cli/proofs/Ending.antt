@@ -1,6 +1,5 @@
--- A patient run, one by rounds, one of what was sent last, one by round robin, or one by Borůvka in step, with turns for its events doesn't stop at
--- its turns.
-use Rattle.std.proofs.Common.{◌≡◌, ◌∙◌, ℕ, Bool, true, false, List, Option, Some, None, ⊎_elim, inr, subst, sym}
+-- A run that has turns for all its events doesn't stop at its turns.
+use Rattle.std.proofs.Common.{◌≡◌, ◌⊎◌, ◌∙◌, ℕ, Bool, false, true, List, Option, Some, None, ⊎_elim, inl, inr, subst, sym}
 use Rattle.std.specs.Prelude.{IfSome, IsErrOf, Result, Ok, Err}
 use Rattle.ghs_gr.specs.Judgement.{IsOneThing, TextIs}
 use Rattle.ghs_gr.specs.RawGraph.{RawShape}
@@ -8,20 +7,24 @@ use Rattle.ghs_choices.specs.declared.schedule_kind.ScheduleKind.{ScheduleKind}
 use Rattle.ghs_choices.specs.declared.schedule_kind.ScheduleKind.TheVariants.{Seeded, Patient, Rounds, Waits, Lifo, RoundRobin}
 use Rattle.ghs_picking.specs.Picking.{IsPickedBy}
 use Rattle.ghs_graph.specs.Graph.{Shape}
+use Rattle.peer_machine.specs.Net.{Net}
+use Rattle.peer_machine.specs.Rules.{Rules}
 use Rattle.peer_network.specs.declared.event.Event.{Event}
+use Rattle.peer_report.specs.Runs.{TurnsSuffice}
+use Rattle.peer_trace.specs.declared.protocol.Protocol.{Protocol}
+use Rattle.peer_trace.specs.declared.protocol.Protocol.TheVariants.{Boruvka, Ghs}
 use Rattle.ghs_protocol.specs.Marks.{HasEnded}
 use Rattle.ghs_protocol.specs.Run.{net_after}
 use Rattle.peer_network.specs.declared.wake_set.WakeSet.{WakeSet}
 use Rattle.ghs_cli.specs.declared.fault.ServeFault.{ServeFault}
 use Rattle.ghs_cli.specs.declared.fault.ServeFault.TheVariants as serve
-use Rattle.boruvka_runs.specs.Runs.{TurnsSuffice}
-use Rattle.ghs_commands.specs.declared.boruvka.BoruvkaOptions.{BoruvkaOptions}
 use Rattle.ghs_commands.specs.declared.job.RunOptions.{RunOptions}
 use Rattle.ghs_commands.specs.declared.job.Task.{Task}
 use Rattle.ghs_commands.specs.declared.job.Task.TheVariants as task
-use Rattle.ghs_cli.specs.Ending.{HasTurnsBy, IsBoundedBoruvka, IsBoundedRun, IsBoundedTask}
-use Rattle.ghs_cli.specs.InStep as in_step
-use Rattle.ghs_cli.specs.Serving.{IsBoruvkaCause, IsBoruvkaOutput, IsGraphCause, IsRunningCause, StopsRun, shape_of}
+use Rattle.ghs_cli.specs.AnyRun.{HasTurnsFor, StopsRun}
+use Rattle.ghs_cli.specs.Running.{HasTurnsBy}
+use Rattle.ghs_cli.specs.Serving.{IsBoundedTask, IsGraphCause, IsOfText, IsTextCause, shape_of}
+use Rattle.ghs_cli.specs.Verbs.{NeverStops, ghs_verbs, verbs_of}
 
 -- a run by a bounded schedule, with turns for its events, has ended
 ended_by : (p : ScheduleKind) (seed : ℕ) (wake : WakeSet) (turns : ℕ) (g : Shape) (es : List Event) → IsPickedBy p seed wake turns g es →
@@ -33,35 +36,46 @@ ended_by Waits seed wake turns g es run enough = absurd enough
 ended_by Lifo seed wake turns g es run enough = run.ends enough
 ended_by RoundRobin seed wake turns g es run enough = run.ends enough
 
+-- a run by GHS that stops at its turns hasn't turns for its events
+pub ghs_never_stops : NeverStops ghs_verbs
+ghs_never_stops o g stops bounded =
+    stops.1.goes_on (ended_by o.schedule_kind o.seed o.wake o.turns g stops.0 (stops.1.by.picked bounded.alone) bounded.turns)
+
+-- nor one by any protocol whose runs end
+module _ {S M : Type 0} (r : Rules S M) (has_ended : Shape → Net S M → Type 0) (bound : Shape → ℕ) where
+  pub any_never_stops : TurnsSuffice r has_ended bound → (o : RunOptions) (g : Shape) → StopsRun r has_ended o g serve.TurnLimit →
+      HasTurnsFor bound o g → ⊥
+  any_never_stops suffice o g stops enough = suffice o.seed o.wake o.turns g stops.0 enough stops.1
+
+-- what goes out at the turn limit is of a run that has used its turns,
+limit_stops : (p : Protocol) (o : RunOptions) (g : Shape) (output : List ℕ) → (verbs_of p).runs o g true output →
+    (verbs_of p).stops o g serve.TurnLimit
+limit_stops Ghs o g output out = (out.events, out.stopped)
+limit_stops Boruvka o g output out = (out.events, out.stopped)
+
+pub limit_cause : (p : Protocol) (o : RunOptions) (input output : List ℕ) → IsOfText (λ g. (verbs_of p).runs o g true) input output →
+    IsTextCause ((verbs_of p).stops o) input serve.TurnLimit
+limit_cause p o input output out = inr (out.0, out.1, limit_stops p o (shape_of out.0) output out.2)
+
+-- what goes out of a run may have gone out in part, be it whole or stopped
+pub either_way : (p : Protocol) (o : RunOptions) (at_limit : Bool) (input output : List ℕ) →
+    IsOfText (λ g. (verbs_of p).runs o g at_limit) input output →
+    IsOfText (λ g. (verbs_of p).runs o g false) input output ⊎ IsOfText (λ g. (verbs_of p).runs o g true) input output
+either_way p o false input output out = inl out
+either_way p o true input output out = inr out
+
 -- a text is that of one graph
 same_graph : (input : List ℕ) (one two : RawShape) → IsOneThing input → TextIs input (Ok one) → TextIs input (Ok two) → one ≡ two
 same_graph input one two is first second = let both : Ok one ≡ Ok two = is.one (Ok one) (Ok two) first second in cc
 
--- a run that stops at its turns, of the one graph whose text the input is, hasn't turns for its events
-pub run_goes_on : (o : RunOptions) (input : List ℕ) → IsOneThing input → IsRunningCause o input serve.TurnLimit → IsBoundedRun o input → ⊥
-run_goes_on o input one cause is =
+-- and a run of the one graph whose text the input is hasn't turns for its events
+pub goes_on : (p : Protocol) (o : RunOptions) → NeverStops (verbs_of p) → (input : List ℕ) → IsOneThing input →
+    IsTextCause ((verbs_of p).stops o) input serve.TurnLimit → IsBoundedTask (task.Run p o) input → ⊥
+goes_on p o never input one cause is =
     ⊎_elim (λ (bad : IsGraphCause input serve.TurnLimit). bad)
-    (λ (stops : (graph : RawShape) × TextIs input (Ok graph) × StopsRun o (shape_of graph) serve.TurnLimit).
-    let turns : HasTurnsBy o.schedule_kind (shape_of stops.0) o.turns =
-    subst (λ (g : RawShape). HasTurnsBy o.schedule_kind (shape_of g) o.turns) (same_graph input is.graph stops.0 one is.text stops.1) is.turns in
-    let stopped = stops.2.1 in
-    stopped.goes_on
-    (ended_by o.schedule_kind o.seed o.wake o.turns (shape_of stops.0) stops.2.0 (stopped.by.picked is.alone) turns))
-    cause
-
--- what goes out at the turn limit is of a run by Borůvka in step that has used its turns,
-pub in_step_limit_cause : (o : BoruvkaOptions) (input output : List ℕ) → IsBoruvkaOutput o true input output → IsBoruvkaCause o input serve.TurnLimit
-in_step_limit_cause o input output out = inr (out.0, out.1, (out.2.events, out.2.stopped))
-
--- and such a run hasn't turns for its events
-pub in_step_goes_on : (o : BoruvkaOptions) → TurnsSuffice → (input : List ℕ) → IsOneThing input → IsBoruvkaCause o input serve.TurnLimit →
-    IsBoundedBoruvka o input → ⊥
-in_step_goes_on o suffice input one cause is =
-    ⊎_elim (λ (bad : IsGraphCause input serve.TurnLimit). bad)
-    (λ (stops : (graph : RawShape) × TextIs input (Ok graph) × in_step.StopsRun o (shape_of graph) serve.TurnLimit).
-    let turns : in_step.HasTurnsFor (shape_of stops.0) o.turns =
-    subst (λ (g : RawShape). in_step.HasTurnsFor (shape_of g) o.turns) (same_graph input is.graph stops.0 one is.text stops.1) is.turns in
-    suffice o.seed o.wake o.turns (shape_of stops.0) stops.2.0 turns stops.2.1)
+    (λ (stops : (graph : RawShape) × TextIs input (Ok graph) × (verbs_of p).stops o (shape_of graph) serve.TurnLimit).
+    never o (shape_of stops.0) stops.2
+    (subst (λ (g : RawShape). (verbs_of p).is_bounded o (shape_of g)) (same_graph input is.0 stops.0 one is.1 stops.1) is.2))
     cause
 
 -- so a result by such a cause is no turn limit of a bounded run,
@@ -99,40 +113,10 @@ pub ends_as : (job other : Task) (input : Option (List ℕ)) (r : Result (Unit {
     IfSome input (λ i. IsBoundedTask job i → IsErrOf r serve.TurnLimit → ⊥)
 ends_as job other input r is ends = rw is ends
 
-abbrev is_run : Task → Bool
-is_run (task.Tree core) = false
-is_run (task.Run o) = true
-is_run (task.Boruvka o) = true
-is_run (task.Replay p wake) = false
-is_run (task.Steps o) = false
-is_run (task.BoruvkaSteps o) = false
-is_run (task.Sweep o) = false
-is_run (task.BoruvkaSweep o) = false
-is_run (task.View o) = false
-is_run (task.BoruvkaView o) = false
-is_run (task.StoredView p o) = false
-is_run (task.Make asked) = false
-is_run (task.Explore o) = false
-
 -- and only runs are bounded
-unbounded : (job : Task) (input : List ℕ) → is_run job ≡ false → IsBoundedTask job input → ⊥
-unbounded (task.Tree core) input unrun bounded = bounded
-unbounded (task.Run o) input unrun bounded = absurd (let bad : true ≡ false = unrun in cc)
-unbounded (task.Boruvka o) input unrun bounded = absurd (let bad : true ≡ false = unrun in cc)
-unbounded (task.Replay p wake) input unrun bounded = bounded
-unbounded (task.Steps o) input unrun bounded = bounded
-unbounded (task.BoruvkaSteps o) input unrun bounded = bounded
-unbounded (task.Sweep o) input unrun bounded = bounded
-unbounded (task.BoruvkaSweep o) input unrun bounded = bounded
-unbounded (task.View o) input unrun bounded = bounded
-unbounded (task.BoruvkaView o) input unrun bounded = bounded
-unbounded (task.StoredView p o) input unrun bounded = bounded
-unbounded (task.Make asked) input unrun bounded = bounded
-unbounded (task.Explore o) input unrun bounded = bounded
-
 pub ends_other : (job other : Task) (input : Option (List ℕ)) (r : Result (Unit {0}) ServeFault) →
     job ≡ other →
-    is_run other ≡ false →
+    ((i : List ℕ) → IsBoundedTask other i → ⊥) →
     IfSome input (λ i. IsBoundedTask job i → IsErrOf r serve.TurnLimit → ⊥)
-ends_other job other None r is unrun = tt
-ends_other job other (Some i) r is unrun = λ bounded limit. unbounded other i unrun (subst (λ (t : Task). IsBoundedTask t i) is bounded)
+ends_other job other None r is unbounded = tt
+ends_other job other (Some i) r is unbounded = λ bounded limit. unbounded i (subst (λ (t : Task). IsBoundedTask t i) is bounded)

@@ -34,8 +34,9 @@ serves_made asked n old new sound of out stored input = (
 serves_part : (asked : Asked) (n : Network) (old new : Option (List ℕ)) (fault : WriteFault) → IsNetwork n → IsNetworkOf asked n
     → IsRefusal asked make.Memory → IsFront old new (text_of n) fault → (stored input : List ℕ)
     → Serves (task.Make asked) stored input old new (Err (of_unwritten fault))
-serves_part asked n old new write.Memory sound of none front stored input = (none, inr (text_of n, made_of asked n sound of, front))
-serves_part asked n old new (write.Write k) sound of none front stored input = (text_of n, made_of asked n sound of, front.0, front.1)
+serves_part asked n old new write.Memory sound of none front stored input = (none, λ portions. inr (text_of n, made_of asked n sound of, front))
+serves_part asked n old new (write.Write k) sound of none front stored input =
+    (text_of n, inl (made_of asked n sound of), front.0, front.1)
 
 pub serves_unmade : (asked : Asked) (n : Network) (old new : Option (List ℕ)) (r : Result (Unit {0}) ServeFault) (fault : WriteFault)
     → r ≡ Err (of_unwritten fault) → IsNetwork n → IsNetworkOf asked n → IsRefusal asked make.Memory
@@ -51,7 +52,7 @@ refused asked o make.LinksGiven is stored input = is
 refused asked o make.WeightsGiven is stored input = is
 refused asked o (make.Links least most) is stored input = is
 refused asked o make.TooManyLinks is stored input = is
-refused asked o make.Memory is stored input = (is, inl refl)
+refused asked o make.Memory is stored input = (is, λ portions. inl refl)
 
 pub serves_refused : (asked : Asked) (o : Option (List ℕ)) (r : Result (Unit {0}) ServeFault) (fault : MakeFault)
     → r ≡ Err (of_make fault) → IsRefusal asked fault → (stored input : List ℕ) → Serves (task.Make asked) stored input o o r

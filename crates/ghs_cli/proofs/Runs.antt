@@ -19,8 +19,7 @@ use Rattle.ghs_world.specs.WorldState.{WorldState, home, wakers}
 use Rattle.ghs_cli.specs.declared.fault.ServeFault.{ServeFault}
 use Rattle.ghs_cli.specs.declared.fault.ServeFault.TheVariants as serve
 use Rattle.ghs_commands.specs.declared.job.RunOptions.{RunOptions}
-use Rattle.ghs_cli.specs.Running.{IsOpened, Stops}
-use Rattle.ghs_cli.specs.Serving.{AreItsRounds, IsRunBy, IsRunOutput, IsRunningCause, IsStopped, IsWholeRun, StopsRun}
+use Rattle.ghs_cli.specs.Running.{AreItsRounds, IsOpened, IsRunBy, IsStopped, IsWholeRun, Stops, StopsRun}
 
 -- what a world holds of its run, as the options ask
 pub is_run_by : (o : RunOptions) (new : WorldState) (limit : ℕ) →
@@ -165,10 +164,6 @@ stopped_threads o new limit events some wake turns run is fits count least goes 
       used = omega (arith, least, fits, count, is, turns);
       goes_on = goes;
     }
-
--- what goes out at the turn limit is of a run that has used its turns
-pub limit_cause : (o : RunOptions) (input output : List ℕ) → IsRunOutput o true input output → IsRunningCause o input serve.TurnLimit
-limit_cause o input output out = inr (out.0, out.1, (out.2.events, out.2.stopped))
 
 -- a run stops in a world where its turns are used,
 pub stops_at_limit : (o : RunOptions) (s : WorldState) → IsStopped o s.net.graph s.net.trace → Stops o s serve.TurnLimit

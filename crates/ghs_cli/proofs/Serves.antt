@@ -1,25 +1,18 @@
 -- What serving comes to, put together from its parts.
-use Rattle.std.proofs.Common.{◌≡◌, ◌∙◌, ℕ, ◌<◌, ◌&&◌, ◌||◌, Bool, true, false, List, Option, Some, None, Vec, Global, inr, length, map, refl, subst, sym}
-use Rattle.std.specs.Prelude.{IfErr, IfOk, IfSome, OnOk, Result, Ok, Err}
+use Rattle.std.proofs.Common.{◌≡◌, ◌∙◌, ℕ, ◌<◌, ◌&&◌, ◌||◌, Bool, true, false, List, Option, Some, None, Vec, Global, inl, inr, length, map, refl, subst, sym}
+use Rattle.std.specs.Prelude.{◌⊎◌, IfErr, IfOk, IfSome, OnOk, Result, Ok, Err}
 use Rattle.ghs_gr.specs.RawGraph.{RawShape}
 use Rattle.ghs_graph.specs.declared.key.Key.{Key}
 use Rattle.ghs_graph.specs.Graph.{Shape}
 use Rattle.ghs_graph.specs.Key.{key_of}
-use Rattle.peer_network.specs.declared.event.Event.{Event}
-use Rattle.ghs_protocol.specs.Marks.{HasEnded}
-use Rattle.peer_network.specs.Network.{network_of}
-use Rattle.ghs_protocol.specs.Run.{IsRunUnder, net_after}
-use Rattle.peer_trace.specs.declared.protocol.Protocol.{Protocol}
-use Rattle.ghs_report.specs.ReportText.{IsReportText}
 use Rattle.ghs_report.specs.Writing.{HasWritten}
-use Rattle.peer_network.specs.declared.wake_set.WakeSet.{WakeSet}
-use Rattle.peer_network.specs.Wakes.{may_wake}
+use Rattle.peer_network.specs.declared.event.Event.{Event}
+use Rattle.peer_trace.specs.declared.protocol.Protocol.{Protocol}
 use Rattle.ghs_cli.specs.declared.fault.ServeFault.{ServeFault}
 use Rattle.ghs_cli.specs.declared.fault.ServeFault.TheVariants as serve
 use Rattle.ghs_commands.specs.declared.job.Task.{Task}
-use Rattle.ghs_commands.specs.declared.job.Task.TheVariants as task
 use Rattle.ghs_cli.specs.Printing.{HasGoneOut, HasPrinted}
-use Rattle.ghs_cli.specs.Serving.{GoesOn, HasBegun, IfStored, IsCause, IsPrinted, IsPrintedAtLimit, IsReplayCause, IsReplayText, IsReplayed, IsReplayedBy, IsRunCause, IsRunCauseBy, IsTextOf, IsTraceText, IsTried, IsUnread, IsUnwritten, Serves, by_portions, is_late, is_limit, is_memory, is_write, shape_of, shows_events}
+use Rattle.ghs_cli.specs.Serving.{IfStored, IsBothCause, IsOfBoth, IsTextOf, IsTraceText, IsUnread, IsUnwritten, Serves, is_late, is_limit, is_memory, is_write, meaning_of, shape_of}
 
 -- what follows for each text follows where one is known
 pub if_some : (o : Option (List ℕ)) (P Q : List ℕ → Type 0) → ((bytes : List ℕ) → P bytes → Q bytes) → IfSome o P → IfSome o Q
@@ -30,168 +23,85 @@ pub for_some : (o : Option (List ℕ)) (P : List ℕ → Type 0) → ((bytes : L
 for_some None P all = tt
 for_some (Some bytes) P all = all bytes
 
--- where memory can't run out behind output, none has gone out
-begun : (job : Task) (stored input : List ℕ) (old new : Option (List ℕ)) → is_late job serve.Memory ≡ false → HasBegun job stored input old new
-begun (task.Tree core) stored input old new early = tt
-begun (task.Run o) stored input old new early = tt
-begun (task.Boruvka o) stored input old new early = tt
-begun (task.Replay p wake) stored input old new early = tt
-begun (task.Steps o) stored input old new early = absurd (let bad : true ≡ false = early in cc)
-begun (task.BoruvkaSteps o) stored input old new early = absurd (let bad : true ≡ false = early in cc)
-begun (task.Sweep o) stored input old new early = tt
-begun (task.BoruvkaSweep o) stored input old new early = tt
-begun (task.View o) stored input old new early = tt
-begun (task.BoruvkaView o) stored input old new early = tt
-begun (task.StoredView p o) stored input old new early = tt
-begun (task.Make asked) stored input old new early = absurd (let bad : true ≡ false = early in cc)
-begun (task.Explore o) stored input old new early = tt
+-- lack of memory is late where the task prints by portions
+memory_late : (portions : Bool) → portions ≡ true → (portions || false) ≡ true
+memory_late portions is = rw is refl
 
 -- a fault behind which no write was tried is served by its cause
 pub serves_cause : (job : Task) (stored input : List ℕ) (old new : Option (List ℕ)) (fault : ServeFault) →
     is_late job fault ≡ false →
-    IsCause job stored input fault →
+    (meaning_of job).cause stored input fault →
     Serves job stored input old new (Err fault)
-serves_cause job stored input old new (serve.BadLine line) early cause = cause
-serves_cause job stored input old new (serve.ArcBeforeProblem line) early cause = cause
-serves_cause job stored input old new (serve.SecondProblem line) early cause = cause
-serves_cause job stored input old new (serve.Number line) early cause = cause
-serves_cause job stored input old new (serve.NodeRange line) early cause = cause
-serves_cause job stored input old new serve.NoProblem early cause = cause
-serves_cause job stored input old new (serve.ArcCount said found) early cause = cause
-serves_cause job stored input old new serve.TooLong early cause = cause
-serves_cause job stored input old new (serve.TraceBadLine line) early cause = cause
-serves_cause job stored input old new (serve.TraceNumber line) early cause = cause
-serves_cause job stored input old new (serve.TraceCount said found) early cause = cause
-serves_cause job stored input old new (serve.TraceOf other) early cause = cause
-serves_cause job stored input old new (serve.NotLawful k) early cause = cause
-serves_cause job stored input old new serve.PageTooLarge early cause = cause
-serves_cause job stored input old new serve.NodesOutside early cause = cause
-serves_cause job stored input old new serve.LinksGiven early cause = cause
-serves_cause job stored input old new serve.WeightsGiven early cause = cause
-serves_cause job stored input old new (serve.LinksOutside least most) early cause = cause
-serves_cause job stored input old new serve.TooManyLinks early cause = cause
-serves_cause job stored input old new serve.TooLargeToExplore early cause = cause
-serves_cause job stored input old new (serve.NoSuchEnd ends) early cause = cause
-serves_cause job stored input old new (serve.StateLimit limit) early cause = cause
-serves_cause job stored input old new serve.PartLimit early cause = cause
 serves_cause job stored input old new serve.TurnLimit early cause = (cause, λ shows. absurd (let bad : true ≡ false = sym shows ∙ early in cc))
-serves_cause job stored input old new serve.Stalled early cause = cause
-serves_cause job stored input old new serve.NotEnded early cause = cause
-serves_cause job stored input old new serve.Memory early cause = (cause, begun job stored input old new early)
-serves_cause job stored input old new serve.NoThread early cause = cause
-serves_cause job stored input old new serve.Strange early cause = cause
-serves_cause job stored input old new serve.Read early cause = cause
+serves_cause job stored input old new serve.Memory early cause =
+    (cause, λ portions. absurd (let bad : true ≡ false = sym (memory_late (meaning_of job).by_portions portions) ∙ early in cc))
 serves_cause job stored input old new (serve.Write written) early cause = cc
-serves_cause job stored input old new serve.Unforeseen early cause = cause
+serves_cause job stored input old new fault early cause = cause
 
--- a graph and a trace give a fault together
-pub fault_together : (p : Protocol) (wake : WakeSet) (stored input : List ℕ) (g : Shape) (events : List Event) (fault : ServeFault) →
+-- what is told of a graph and of events is told of their texts,
+pub told_of : (p : Protocol) (Tells : Shape → List Event → List ℕ → Type 0) (stored input output : List ℕ) (g : Shape) (events : List Event) →
     IsTraceText p stored events →
     IsTextOf input g →
-    IsRunCauseBy p wake g events fault →
-    IsReplayCause p wake stored input fault
-fault_together p wake stored input g events fault trace (raw, text, same) cause = inr (inr (record {
+    Tells g events output →
+    IsOfBoth p Tells stored input output
+told_of p Tells stored input output g events trace (raw, text, same) told = record {
+  graph = raw;
+  text = text;
+  events = events;
+  trace = trace;
+  told = subst (λ (s : Shape). Tells s events output) same told;
+}
+
+-- and a fault of both is one of their texts
+pub fault_of : (p : Protocol) (Fails : Shape → List Event → ServeFault → Type 0) (stored input : List ℕ) (g : Shape) (events : List Event)
+    (fault : ServeFault) →
+    IsTraceText p stored events →
+    IsTextOf input g →
+    Fails g events fault →
+    IsBothCause p Fails stored input fault
+fault_of p Fails stored input g events fault trace (raw, text, same) cause = inr (inr (record {
   events = events;
   trace = trace;
   graph = raw;
   text = text;
-  cause = subst (λ (h : Shape). IsRunCauseBy p wake h events fault) same cause;
+  cause = subst (λ (s : Shape). Fails s events fault) same cause;
 }))
 
--- and so does a result of them
-pub faults_together : {A : Type 0} (r : Result A ServeFault) (p : Protocol) (wake : WakeSet) (g : Shape) (events : List Event)
-    (stored input : Option (List ℕ)) →
-    IfErr r (IsRunCauseBy p wake g events) →
+-- what follows for each trace and graph follows where both are known
+pub if_both : (p : Protocol) (stored input : Option (List ℕ)) (g : Shape) (events : List Event) (P : List ℕ → List ℕ → Type 0) →
+    ((s i : List ℕ) → IsTraceText p s events → IsTextOf i g → P s i) →
     IfSome stored (λ s. IsTraceText p s events) →
     IfSome input (λ i. IsTextOf i g) →
-    IfErr r (λ fault. IfSome stored (λ s. IfSome input (λ i. IsReplayCause p wake s i fault)))
-faults_together (Ok x) p wake g events stored input cause trace text = tt
-faults_together (Err fault) p wake g events None input cause trace text = tt
-faults_together (Err fault) p wake g events (Some s) None cause trace text = tt
-faults_together (Err fault) p wake g events (Some s) (Some i) cause trace text = fault_together p wake s i g events fault trace text cause
+    IfSome stored (λ s. IfSome input (λ i. P s i))
+if_both p None input g events P all trace text = tt
+if_both p (Some s) None g events P all trace text = tt
+if_both p (Some s) (Some i) g events P all trace text = all s i trace text
 
--- or a replay
-pub replay_output : {A : Type 0} (r : Result A ServeFault) (out : A → List ℕ) (p : Protocol) (wake : WakeSet) (g : Shape) (events : List Event)
-    (stored input : Option (List ℕ)) →
-    IfOk r (λ x. IsReplayedBy p wake g events (out x)) →
+-- so what a result tells of both it tells of their texts,
+pub output_of_both : {A : Type 0} (r : Result A ServeFault) (out : A → List ℕ) (p : Protocol) (Tells : Shape → List Event → List ℕ → Type 0)
+    (g : Shape) (events : List Event) (stored input : Option (List ℕ)) →
+    IfOk r (λ x. Tells g events (out x)) →
     IfSome stored (λ s. IsTraceText p s events) →
     IfSome input (λ i. IsTextOf i g) →
-    IfOk r (λ x. IfSome stored (λ s. IfSome input (λ i. IsReplayText p wake s i (out x))))
-replay_output (Err fault) out p wake g events stored input replayed trace text = tt
-replay_output (Ok x) out p wake g events None input replayed trace text = tt
-replay_output (Ok x) out p wake g events (Some s) None replayed trace text = tt
-replay_output (Ok x) out p wake g events (Some s) (Some i) replayed trace (raw, text, same) = record {
-  graph = raw;
-  text = text;
-  events = events;
-  trace = trace;
-  replayed = subst (λ (h : Shape). IsReplayedBy p wake h events (out x)) same replayed;
-}
+    IfOk r (λ x. IfSome stored (λ s. IfSome input (λ i. IsOfBoth p Tells s i (out x))))
+output_of_both (Err fault) out p Tells g events stored input told trace text = tt
+output_of_both (Ok x) out p Tells g events stored input told trace text =
+    if_both p stored input g events (λ s i. IsOfBoth p Tells s i (out x))
+    (λ s i trace_s text_i. told_of p Tells s i (out x) g events trace_s text_i told)
+    trace text
 
--- a world that stands at the end of events has their text
-pub is_replayed : (wake own : WakeSet) (h g : Shape) (done events : List Event) (text : List ℕ) →
-    g ≡ h →
-    done ≡ events →
-    own ≡ wake →
-    IsRunUnder (may_wake g own) (network_of g) done →
-    HasEnded g (net_after g done) →
-    IsReportText g (net_after g done) text →
-    IsReplayed wake h events text
-is_replayed wake own h g done events text graph trace wakes run ended printed = record {
-  run =
-      subst (λ (s : Shape). IsRunUnder (may_wake s wake) (network_of s) events) graph
-      (subst (λ (es : List Event). IsRunUnder (may_wake g wake) (network_of g) es) trace
-      (subst (λ (w : WakeSet). IsRunUnder (may_wake g w) (network_of g) done) wakes run));
-  ended = subst (λ (s : Shape). HasEnded s (net_after s events)) graph (subst (λ (es : List Event). HasEnded g (net_after g es)) trace ended);
-  printed = subst (λ (s : Shape). IsReportText s (net_after s events) text) graph
-      (subst (λ (es : List Event). IsReportText g (net_after g es) text) trace printed);
-}
-
--- a world whose run goes on gives its fault
-pub goes_on : (wake own : WakeSet) (h g : Shape) (done events : List Event) (fault : ServeFault) →
-    g ≡ h →
-    done ≡ events →
-    own ≡ wake →
-    IsRunUnder (may_wake g own) (network_of g) done →
-    GoesOn g (net_after g done) fault →
-    IsRunCause wake h events fault
-goes_on wake own h g done events serve.PageTooLarge graph trace wakes run goes = absurd goes
-goes_on wake own h g done events serve.NodesOutside graph trace wakes run goes = absurd goes
-goes_on wake own h g done events serve.LinksGiven graph trace wakes run goes = absurd goes
-goes_on wake own h g done events serve.WeightsGiven graph trace wakes run goes = absurd goes
-goes_on wake own h g done events (serve.LinksOutside least most) graph trace wakes run goes = absurd goes
-goes_on wake own h g done events serve.TooManyLinks graph trace wakes run goes = absurd goes
-goes_on wake own h g done events serve.TooLargeToExplore graph trace wakes run goes = absurd goes
-goes_on wake own h g done events (serve.NoSuchEnd ends) graph trace wakes run goes = absurd goes
-goes_on wake own h g done events (serve.StateLimit limit) graph trace wakes run goes = absurd goes
-goes_on wake own h g done events serve.PartLimit graph trace wakes run goes = absurd goes
-goes_on wake own h g done events serve.TurnLimit graph trace wakes run goes = absurd goes
-goes_on wake own h g done events serve.Stalled graph trace wakes run goes = absurd goes
-goes_on wake own h g done events serve.NotEnded graph trace wakes run goes = (
-  subst (λ (s : Shape). IsRunUnder (may_wake s wake) (network_of s) events) graph
-      (subst (λ (es : List Event). IsRunUnder (may_wake g wake) (network_of g) es) trace
-      (subst (λ (w : WakeSet). IsRunUnder (may_wake g w) (network_of g) done) wakes run)),
-  subst (λ (s : Shape). HasEnded s (net_after s events) → ⊥) graph (subst (λ (es : List Event). HasEnded g (net_after g es) → ⊥) trace goes),
-)
-goes_on wake own h g done events serve.Memory graph trace wakes run goes = tt
-goes_on wake own h g done events serve.NoThread graph trace wakes run goes = absurd goes
-goes_on wake own h g done events serve.Strange graph trace wakes run goes = absurd goes
-goes_on wake own h g done events (serve.BadLine line) graph trace wakes run goes = absurd goes
-goes_on wake own h g done events (serve.ArcBeforeProblem line) graph trace wakes run goes = absurd goes
-goes_on wake own h g done events (serve.SecondProblem line) graph trace wakes run goes = absurd goes
-goes_on wake own h g done events (serve.Number line) graph trace wakes run goes = absurd goes
-goes_on wake own h g done events (serve.NodeRange line) graph trace wakes run goes = absurd goes
-goes_on wake own h g done events serve.NoProblem graph trace wakes run goes = absurd goes
-goes_on wake own h g done events (serve.ArcCount said found) graph trace wakes run goes = absurd goes
-goes_on wake own h g done events serve.TooLong graph trace wakes run goes = absurd goes
-goes_on wake own h g done events (serve.TraceBadLine line) graph trace wakes run goes = absurd goes
-goes_on wake own h g done events (serve.TraceNumber line) graph trace wakes run goes = absurd goes
-goes_on wake own h g done events (serve.TraceCount said found) graph trace wakes run goes = absurd goes
-goes_on wake own h g done events (serve.TraceOf other) graph trace wakes run goes = absurd goes
-goes_on wake own h g done events (serve.NotLawful k) graph trace wakes run goes = absurd goes
-goes_on wake own h g done events serve.Read graph trace wakes run goes = absurd goes
-goes_on wake own h g done events (serve.Write written) graph trace wakes run goes = absurd goes
-goes_on wake own h g done events serve.Unforeseen graph trace wakes run goes = absurd goes
+-- and so does its fault
+pub cause_of_both : {A : Type 0} (r : Result A ServeFault) (p : Protocol) (Fails : Shape → List Event → ServeFault → Type 0) (g : Shape)
+    (events : List Event) (stored input : Option (List ℕ)) →
+    IfErr r (Fails g events) →
+    IfSome stored (λ s. IsTraceText p s events) →
+    IfSome input (λ i. IsTextOf i g) →
+    IfErr r (λ fault. IfSome stored (λ s. IfSome input (λ i. IsBothCause p Fails s i fault)))
+cause_of_both (Ok x) p Fails g events stored input cause trace text = tt
+cause_of_both (Err fault) p Fails g events stored input cause trace text =
+    if_both p stored input g events (λ s i. IsBothCause p Fails s i fault)
+    (λ s i trace_s text_i. fault_of p Fails s i g events fault trace_s text_i cause)
+    trace text
 
 -- what follows for each value, or each fault, follows for a result
 pub if_ok : {A E : Type 0} (r : Result A E) (H : Type 0) (P Q : A → Type 0) → ((x : A) → H → P x → Q x) → OnOk r H → IfOk r P → IfOk r Q
@@ -212,40 +122,24 @@ same_shape g raw nodes keys =
 pub serves_fault : (job : Task) (stored input : List ℕ) (old new : Option (List ℕ)) (r : Result (Unit {0}) ServeFault) (fault : ServeFault) →
     r ≡ Err fault →
     is_late job fault ≡ false →
-    IsCause job stored input fault →
+    (meaning_of job).cause stored input fault →
     Serves job stored input old new r
 serves_fault job stored input old new r fault is early cause = rw is (serves_cause job stored input old new fault early cause)
 
--- what a task prints may have gone out in part
-tried_of : (job : Task) (stored input output : List ℕ) → IsPrinted job stored input output → IsTried job stored input output
-tried_of (task.Tree core) stored input output printed = printed
-tried_of (task.Run o) stored input output printed = (false, printed)
-tried_of (task.Boruvka o) stored input output printed = (false, printed)
-tried_of (task.Replay p wake) stored input output printed = printed
-tried_of (task.Steps o) stored input output printed = printed
-tried_of (task.BoruvkaSteps o) stored input output printed = printed
-tried_of (task.Sweep o) stored input output printed = printed
-tried_of (task.BoruvkaSweep o) stored input output printed = printed
-tried_of (task.View o) stored input output printed = printed
-tried_of (task.BoruvkaView o) stored input output printed = printed
-tried_of (task.StoredView p o) stored input output printed = printed
-tried_of (task.Make asked) stored input output printed = printed
-tried_of (task.Explore o) stored input output printed = printed
-
 -- an output that has gone out serves the task that prints it
 serves_output : (job : Task) (stored input output : List ℕ) (old new : Option (List ℕ)) (r : Result (Unit {0}) ServeFault) →
-    IsPrinted job stored input output →
+    (meaning_of job).prints stored input output →
     HasGoneOut output old new r →
     Serves job stored input old new r
 serves_output job stored input output old new (Ok u) printed out = (output, printed, out.whole)
 serves_output job stored input output old new (Err fault) printed out =
-    let part = out.part in rw part.is (output, tried_of job stored input output printed, part.less, part.has)
+    let part = out.part in rw part.is (output, inl printed, part.less, part.has)
 
 -- an output that a task prints serves it where all of it has gone out,
 pub serves_all : (job : Task) (stored input bytes output : List ℕ) (old new : Option (List ℕ)) →
     bytes ≡ output →
     HasWritten old new bytes (length bytes) →
-    IsPrinted job stored input output →
+    (meaning_of job).prints stored input output →
     Serves job stored input old new (Ok tt)
 serves_all job stored input bytes output old new same has out = (output, out, subst (λ (b : List ℕ). HasWritten old new b (length b)) same has)
 
@@ -253,8 +147,8 @@ serves_all job stored input bytes output old new same has out = (output, out, su
 pub serves_limit : (job : Task) (stored input bytes output : List ℕ) (old new : Option (List ℕ)) →
     bytes ≡ output →
     HasWritten old new bytes (length bytes) →
-    IsCause job stored input serve.TurnLimit →
-    IsPrintedAtLimit job input output →
+    (meaning_of job).cause stored input serve.TurnLimit →
+    (meaning_of job).prints_at_limit stored input output →
     Serves job stored input old new (Err serve.TurnLimit)
 serves_limit job stored input bytes output old new same has cause out = (
   cause,
@@ -268,7 +162,7 @@ pub serves_part : (job : Task) (stored input bytes output : List ℕ) (old new :
     r ≡ Err (serve.Write written) →
     written < length bytes →
     HasWritten old new bytes written →
-    IsTried job stored input output →
+    (meaning_of job).prints stored input output ⊎ (meaning_of job).prints_at_limit stored input output →
     Serves job stored input old new r
 serves_part job stored input bytes output old new r written same is less has out =
     rw is (
@@ -293,28 +187,29 @@ no_write false memory limit portions events none = refl
 -- what a task prints whole has gone out, or it is said why there is nothing
 serves_made : (job : Task) (stored input : List ℕ) (made : Result (Vec ℕ Global) ServeFault) (old new : Option (List ℕ))
     (r : Result (Unit {0}) ServeFault) →
-    by_portions job ≡ false →
-    shows_events job ≡ false →
+    (meaning_of job).by_portions ≡ false →
+    (meaning_of job).shows_events ≡ false →
     IfErr made (λ fault. is_write fault ≡ false) →
     HasPrinted made old new r →
-    IfOk made (λ text. IsPrinted job stored input text.items) →
-    IfErr made (λ fault. IsCause job stored input fault) →
+    IfOk made (λ text. (meaning_of job).prints stored input text.items) →
+    IfErr made (λ fault. (meaning_of job).cause stored input fault) →
     Serves job stored input old new r
 serves_made job stored input (Ok text) old new r whole quiet early has printed cause =
     serves_output job stored input text.items old new r printed has.out
 serves_made job stored input (Err fault) old new r whole quiet early has printed cause =
     serves_fault job stored input old new r fault has.none
-    (none_late (is_write fault) (is_memory fault) (is_limit fault) (by_portions job) (shows_events job) early whole quiet) cause
+    (none_late (is_write fault) (is_memory fault) (is_limit fault) ((meaning_of job).by_portions)
+    ((meaning_of job).shows_events) early whole quiet) cause
 
 -- whatever is stored,
 pub serves_unread : (job : Task) (input : Option (List ℕ)) (made : Result (Vec ℕ Global) ServeFault) (old new : Option (List ℕ))
     (r : Result (Unit {0}) ServeFault) →
-    by_portions job ≡ false →
-    shows_events job ≡ false →
+    (meaning_of job).by_portions ≡ false →
+    (meaning_of job).shows_events ≡ false →
     IfErr made (λ fault. is_write fault ≡ false) →
     HasPrinted made old new r →
-    ((s : List ℕ) → IfOk made (λ text. IfSome input (λ i. IsPrinted job s i text.items))) →
-    ((s : List ℕ) → IfErr made (λ fault. IfSome input (λ i. IsCause job s i fault))) →
+    ((s : List ℕ) → IfOk made (λ text. IfSome input (λ i. (meaning_of job).prints s i text.items))) →
+    ((s : List ℕ) → IfErr made (λ fault. IfSome input (λ i. (meaning_of job).cause s i fault))) →
     (s : List ℕ) → IfSome input (λ i. Serves job s i old new r)
 serves_unread job None made old new r whole quiet early has printed cause s = tt
 serves_unread job (Some i) made old new r whole quiet early has printed cause s =
@@ -323,12 +218,12 @@ serves_unread job (Some i) made old new r whole quiet early has printed cause s 
 -- or of what is stored
 pub serves_stored : (job : Task) (stored input : Option (List ℕ)) (made : Result (Vec ℕ Global) ServeFault) (old new : Option (List ℕ))
     (r : Result (Unit {0}) ServeFault) →
-    by_portions job ≡ false →
-    shows_events job ≡ false →
+    (meaning_of job).by_portions ≡ false →
+    (meaning_of job).shows_events ≡ false →
     IfErr made (λ fault. is_write fault ≡ false) →
     HasPrinted made old new r →
-    IfOk made (λ text. IfSome stored (λ s. IfSome input (λ i. IsPrinted job s i text.items))) →
-    IfErr made (λ fault. IfSome stored (λ s. IfSome input (λ i. IsCause job s i fault))) →
+    IfOk made (λ text. IfSome stored (λ s. IfSome input (λ i. (meaning_of job).prints s i text.items))) →
+    IfErr made (λ fault. IfSome stored (λ s. IfSome input (λ i. (meaning_of job).cause s i fault))) →
     IfSome stored (λ s. IfSome input (λ i. Serves job s i old new r))
 serves_stored job None input made old new r whole quiet early has printed cause = tt
 serves_stored job (Some s) None made old new r whole quiet early has printed cause = tt
@@ -341,7 +236,7 @@ pub unwritten_but_for_write : {W : Type 0} (job : Task) (old new : W) (r : Resul
     IsUnwritten job old new r
 unwritten_but_for_write job old new (Ok u) early = tt
 unwritten_but_for_write job old new (Err fault) early = λ none.
-    early (no_write (is_write fault) (is_memory fault) (is_limit fault) (by_portions job) (shows_events job) none)
+    early (no_write (is_write fault) (is_memory fault) (is_limit fault) ((meaning_of job).by_portions) ((meaning_of job).shows_events) none)
 
 -- a job is served as its task is
 pub serves_as : (job other : Task) (stored input old new : Option (List ℕ)) (r : Result (Unit {0}) ServeFault) →
@@ -359,6 +254,10 @@ unwritten_as job other old new (Err fault) is early = rw is early
 
 pub unread_as : {T : Type 0} (job other : Task) (old new : T) → job ≡ other → IsUnread other old new → IsUnread job old new
 unread_as job other old new is unread = rw is unread
+
+-- nothing is said of the trace where the task reads it
+pub unread_by : {T : Type 0} (job : Task) (old new : T) → (meaning_of job).reads_trace ≡ true → IsUnread job old new
+unread_by job old new reads = λ none. absurd (let bad : true ≡ false = sym reads ∙ none in cc)
 
 -- a text that was made goes out,
 pub all_printed : (made : Result (Vec ℕ Global) ServeFault) (text : Vec ℕ Global) (bytes : List ℕ) (old new : Option (List ℕ)) →

@@ -1,102 +1,144 @@
 -- What writing the steps of a stored run comes to.
-use Rattle.std.proofs.Common.{◌≡◌, ℕ, List, Option, Some, None, inl, inr, length, refl, subst, sym, arith}
-use Rattle.std.specs.Prelude.{IfSome, Result, Ok, Err}
+use Rattle.std.proofs.Common.{◌≡◌, ◌⊎◌, ℕ, Bool, false, true, List, Option, ⊎_elim, inl, inr, length, refl, subst, sym, arith, ◌∙◌, ◌&&◌, ◌||◌}
+use Rattle.std.specs.Prelude.{IfErr, IfSome, Result, Ok, Err}
 use Rattle.std.specs.Io.KnownBytes.{Appends}
 use Rattle.std.proofs.lemmas.List.{take_all}
 use Rattle.ghs_graph.specs.Graph.{Shape}
-use Rattle.peer_network.specs.declared.event.Event.{Event}
+use Rattle.ghs_report.specs.Written.{IsFront}
+use Rattle.ghs_report.specs.declared.portions.WriteFault.TheVariants as writes
+use Rattle.ghs_steps.specs.Shown as ghs
+use Rattle.ghs_sched.specs.Replays as ghs_replays
+use Rattle.ghs_protocol.specs.Run as ghs_run
+use Rattle.ghs_steps.specs.Lines as ghs_lines
+use Rattle.peer_machine.specs.Rules.{Rules}
+use Rattle.peer_machine.specs.Run.{IsRunUnder}
 use Rattle.peer_network.specs.Network.{network_of}
-use Rattle.ghs_protocol.specs.Run.{IsRunUnder}
-use Rattle.ghs_steps.specs.Lines.{lines}
-use Rattle.ghs_steps.specs.Shown.{CantShow}
+use Rattle.peer_network.specs.Wakes.{may_wake}
+use Rattle.peer_network.specs.declared.event.Event.{Event}
+use Rattle.peer_runs.specs.Replays.{IsFirstUnlawful}
+use Rattle.peer_steps.specs.Lines.{lines}
+use Rattle.peer_steps.specs.Shown.{CantShow}
 use Rattle.peer_steps.specs.declared.fault.StepsFault.{StepsFault}
 use Rattle.peer_steps.specs.declared.fault.StepsFault.TheVariants as steps
-use Rattle.peer_network.specs.Wakes.{may_wake}
 use Rattle.peer_trace.specs.declared.protocol.Protocol.{Protocol}
-use Rattle.peer_trace.specs.declared.protocol.Protocol.TheVariants.{Ghs}
+use Rattle.peer_words.specs.Words.{Words}
+use Rattle.ghs_cli.specs.AnyRun as any_run
 use Rattle.ghs_cli.specs.Fault.{of_steps}
+use Rattle.ghs_cli.specs.Running.{AreSteps}
+use Rattle.ghs_cli.specs.Serving.{IsBothCause, IsTextOf, IsTraceText, Serves, is_late, is_limit, is_memory, is_write, meaning_of}
+use Rattle.ghs_cli.specs.Stepping.{CantTell, HasTold}
+use Rattle.ghs_cli.specs.Verbs.{verbs_of}
 use Rattle.ghs_cli.specs.declared.fault.ServeFault.{ServeFault}
 use Rattle.ghs_cli.specs.declared.fault.ServeFault.TheVariants as serve
+use Rattle.ghs_cli.proofs.Serves.{fault_of, if_both, told_of}
 use Rattle.ghs_commands.specs.declared.job.StepsOptions.{StepsOptions}
-use Rattle.ghs_commands.specs.declared.job.Task.{Task}
 use Rattle.ghs_commands.specs.declared.job.Task.TheVariants as task
-use Rattle.ghs_cli.specs.Serving.{AreSteps, IsOfBoth, IsPrinted, IsTextOf, IsTraceText, Serves}
-use Rattle.ghs_cli.proofs.Serves.{fault_together}
 
--- what is told of a graph is told of its text
-pub told_of : (p : Protocol) (Tells : Shape → List Event → List ℕ → Type 0) (stored input output : List ℕ) (g : Shape) (events : List Event) →
-    IsTraceText p stored events →
-    IsTextOf input g →
-    Tells g events output →
-    IsOfBoth p Tells stored input output
-told_of p Tells stored input output g events trace (raw, text, same) told = record {
-  graph = raw;
-  text = text;
-  events = events;
-  trace = trace;
-  told = subst (λ (s : Shape). Tells s events output) same told;
-}
-
--- all that a task prints has gone out
-pub all_gone : (job : Task) (stored input output : List ℕ) (old new : Option (List ℕ)) →
-    IsPrinted job stored input output →
+-- all lines have gone out
+all_told : (tells : List ℕ → Type 0) (is_unlawful : ℕ → Type 0) (output : List ℕ) (old new : Option (List ℕ)) →
+    tells output →
     Appends old new output →
-    Serves job stored input old new (Ok tt)
-all_gone job stored input output old new printed out = (
+    HasTold tells is_unlawful old new (Ok tt)
+all_told tells is_unlawful output old new told out = (
   output,
-  printed,
+  told,
   subst (λ (bytes : List ℕ). Appends old new bytes) (sym (take_all (length output) output (omega arith))) out,
 )
 
--- what follows for each trace and graph follows where both are known
-pub if_both : (p : Protocol) (stored input : Option (List ℕ)) (g : Shape) (events : List Event) (P : List ℕ → List ℕ → Type 0) →
-    ((s i : List ℕ) → IsTraceText p s events → IsTextOf i g → P s i) →
+-- of a run by GHS,
+pub ghs_told : (o : StepsOptions) (g : Shape) (events : List Event) (old new : Option (List ℕ)) →
+    ghs_run.IsRunUnder (may_wake g o.wake) (network_of g) events →
+    Appends old new (ghs_lines.lines o.form g events o.choice) →
+    HasTold (AreSteps o g events) (ghs_replays.IsFirstUnlawful g o.wake events) old new (Ok tt)
+ghs_told o g events old new run out =
+    all_told (AreSteps o g events) (ghs_replays.IsFirstUnlawful g o.wake events) (ghs_lines.lines o.form g events o.choice) old new
+    (record { run = run; printed = refl }) out
+
+-- or not all of them
+ghs_cant_tell : (o : StepsOptions) (g : Shape) (events : List Event) (old new : Option (List ℕ)) (fault : StepsFault) →
+    ghs.CantShow g o.wake events (ghs_lines.lines o.form g events o.choice) old new fault →
+    HasTold (AreSteps o g events) (ghs_replays.IsFirstUnlawful g o.wake events) old new (Err (of_steps fault))
+ghs_cant_tell o g events old new (steps.NotLawful k) has = has.0
+ghs_cant_tell o g events old new steps.Memory (inl none) = inl none
+ghs_cant_tell o g events old new steps.Memory (inr front) = inr (_, record { run = front.0; printed = refl }, front.1)
+ghs_cant_tell o g events old new (steps.Write k) has = (_, record { run = has.0; printed = refl }, has.1.0, has.1.1)
+
+pub ghs_untold : (o : StepsOptions) (g : Shape) (events : List Event) (old new : Option (List ℕ)) (r : Result (Unit {0}) ServeFault)
+    (fault : StepsFault) →
+    r ≡ Err (of_steps fault) →
+    ghs.CantShow g o.wake events (ghs_lines.lines o.form g events o.choice) old new fault →
+    HasTold (AreSteps o g events) (ghs_replays.IsFirstUnlawful g o.wake events) old new r
+ghs_untold o g events old new r fault is has = rw is (ghs_cant_tell o g events old new fault has)
+
+-- the same of a run by any protocol
+module _ {S M : Type 0} (r : Rules S M) (words : Words S M) where
+  pub any_told : (o : StepsOptions) (g : Shape) (events : List Event) (old new : Option (List ℕ)) →
+      IsRunUnder r (may_wake g o.wake) (network_of g) events →
+      Appends old new (lines r words o.form g o.choice events) →
+      HasTold (any_run.AreSteps r words o g events) (IsFirstUnlawful r g o.wake events) old new (Ok tt)
+  any_told o g events old new run out =
+      all_told (any_run.AreSteps r words o g events) (IsFirstUnlawful r g o.wake events) (lines r words o.form g o.choice events) old new
+      (record { run = run; printed = refl }) out
+
+  any_cant_tell : (o : StepsOptions) (g : Shape) (events : List Event) (old new : Option (List ℕ)) (fault : StepsFault) →
+      CantShow r g o.wake events (lines r words o.form g o.choice events) old new fault →
+      HasTold (any_run.AreSteps r words o g events) (IsFirstUnlawful r g o.wake events) old new (Err (of_steps fault))
+  any_cant_tell o g events old new (steps.NotLawful k) has = has.0
+  any_cant_tell o g events old new steps.Memory (inl none) = inl none
+  any_cant_tell o g events old new steps.Memory (inr front) = inr (_, record { run = front.0; printed = refl }, front.1)
+  any_cant_tell o g events old new (steps.Write k) has = (_, record { run = has.0; printed = refl }, has.1.0, has.1.1)
+
+  pub any_untold : (o : StepsOptions) (g : Shape) (events : List Event) (old new : Option (List ℕ)) (result : Result (Unit {0}) ServeFault)
+      (fault : StepsFault) →
+      result ≡ Err (of_steps fault) →
+      CantShow r g o.wake events (lines r words o.form g o.choice events) old new fault →
+      HasTold (any_run.AreSteps r words o g events) (IsFirstUnlawful r g o.wake events) old new result
+  any_untold o g events old new result fault is has = rw is (any_cant_tell o g events old new fault has)
+
+-- what is told of events serves the steps of their texts
+module _ (p : Protocol) (o : StepsOptions) (stored input : List ℕ) (g : Shape) (events : List Event) (trace : IsTraceText p stored events)
+    (text : IsTextOf input g) where
+  -- what is told of them,
+  told_so : (output : List ℕ) → (verbs_of p).tells o g events output → (meaning_of (task.Steps p o)).prints stored input output
+  told_so output told = told_of p ((verbs_of p).tells o) stored input output g events trace text told
+
+  -- and a fault of them
+  fault_so : (fault : ServeFault) → CantTell ((verbs_of p).is_unlawful o.wake g events) fault →
+      (meaning_of (task.Steps p o)).cause stored input fault
+  fault_so fault cause =
+      fault_of p (λ s es. CantTell ((verbs_of p).is_unlawful o.wake s es)) stored input g events fault trace text cause
+
+  serves_result : (old new : Option (List ℕ)) (r : Result (Unit {0}) ServeFault) →
+      HasTold ((verbs_of p).tells o g events) ((verbs_of p).is_unlawful o.wake g events) old new r →
+      Serves (task.Steps p o) stored input old new r
+  serves_result old new (Ok u) has = (has.0, told_so has.0 has.1, has.2)
+  serves_result old new (Err (serve.Write k)) has = (has.0, inl (told_so has.0 has.1), has.2, has.3)
+  serves_result old new (Err serve.Memory) (inl none) = (fault_so serve.Memory tt, λ portions. inl none)
+  serves_result old new (Err serve.Memory) (inr front) =
+      (fault_so serve.Memory tt, λ portions. inr (front.0, told_so front.0 front.1, front.2))
+  serves_result old new (Err (serve.NotLawful k)) has = fault_so (serve.NotLawful k) has
+  serves_result old new (Err fault) has = absurd has
+
+pub serves_told : (p : Protocol) (o : StepsOptions) (stored input : Option (List ℕ)) (g : Shape) (events : List Event)
+    (old new : Option (List ℕ)) (r : Result (Unit {0}) ServeFault) →
     IfSome stored (λ s. IsTraceText p s events) →
     IfSome input (λ i. IsTextOf i g) →
-    IfSome stored (λ s. IfSome input (λ i. P s i))
-if_both p None input g events P all trace text = tt
-if_both p (Some s) None g events P all trace text = tt
-if_both p (Some s) (Some i) g events P all trace text = all s i trace text
-
--- the lines of a run
-steps_are : (o : StepsOptions) (g : Shape) (events : List Event) → IsRunUnder (may_wake g o.wake) (network_of g) events →
-    AreSteps o g events (lines o.form g events o.choice)
-steps_are o g events run = record { run = run; printed = refl }
-
-pub serves_lines : (o : StepsOptions) (stored input : Option (List ℕ)) (g : Shape) (events : List Event)
-    (old new : Option (List ℕ)) → IfSome stored (λ s. IsTraceText Ghs s events) → IfSome input (λ i. IsTextOf i g) →
-    IsRunUnder (may_wake g o.wake) (network_of g) events → Appends old new (lines o.form g events o.choice) →
-    IfSome stored (λ s. IfSome input (λ i. Serves (task.Steps o) s i old new (Ok tt)))
-serves_lines o stored input g events old new trace text run out =
-    if_both Ghs stored input g events (λ s i. Serves (task.Steps o) s i old new (Ok tt))
-    (λ s i trace_s text_i. all_gone (task.Steps o) s i (lines o.form g events o.choice) old new
-    (told_of Ghs (AreSteps o) s i (lines o.form g events o.choice) g events trace_s text_i (steps_are o g events run)) out)
+    HasTold ((verbs_of p).tells o g events) ((verbs_of p).is_unlawful o.wake g events) old new r →
+    IfSome stored (λ s. IfSome input (λ i. Serves (task.Steps p o) s i old new r))
+serves_told p o stored input g events old new r trace text has =
+    if_both p stored input g events (λ s i. Serves (task.Steps p o) s i old new r)
+    (λ s i trace_s text_i. serves_result p o s i g events trace_s text_i old new r has)
     trace text
 
--- a fault behind the judgement of trace and graph
-cant_show : (o : StepsOptions) (stored input : List ℕ) (g : Shape) (events : List Event)
-    (old new : Option (List ℕ)) (fault : StepsFault) → IsTraceText Ghs stored events → IsTextOf input g →
-    CantShow g o.wake events (lines o.form g events o.choice) old new fault →
-    Serves (task.Steps o) stored input old new (Err (of_steps fault))
-cant_show o stored input g events old new (steps.NotLawful k) trace text has =
-    ((λ is. cc), fault_together Ghs o.wake stored input g events (serve.NotLawful k) trace text has.0)
-cant_show o stored input g events old new steps.Memory trace text (inl none) =
-    (((λ is. cc), fault_together Ghs o.wake stored input g events serve.Memory trace text tt), inl none)
-cant_show o stored input g events old new steps.Memory trace text (inr front) = (
-  ((λ is. cc), fault_together Ghs o.wake stored input g events serve.Memory trace text tt),
-  inr (_, told_of Ghs (AreSteps o) stored input _ g events trace text (steps_are o g events front.0), front.1),
-)
-cant_show o stored input g events old new (steps.Write k) trace text has =
-    (_, told_of Ghs (AreSteps o) stored input _ g events trace text (steps_are o g events has.0), has.1.0, has.1.1)
+-- a fault of steps that isn't late is no write, and no lack of memory
+neither : (write memory limit : Bool) → (write || (memory && true) || (limit && false)) ≡ false → (write ≡ false) × (memory ≡ false)
+neither true memory limit none = absurd (let bad : true ≡ false = none in cc)
+neither false true limit none = absurd (let bad : true ≡ false = none in cc)
+neither false false limit none = (refl, refl)
 
-pub serves_unshown :
-    (o : StepsOptions) (stored input : Option (List ℕ)) (g : Shape) (events : List Event) (old new : Option (List ℕ))
-    (r : Result (Unit {0}) ServeFault) (fault : StepsFault) →
-    r ≡ Err (of_steps fault) →
-    IfSome stored (λ s. IsTraceText Ghs s events) → IfSome input (λ i. IsTextOf i g) →
-    CantShow g o.wake events (lines o.form g events o.choice) old new fault →
-    IfSome stored (λ s. IfSome input (λ i. Serves (task.Steps o) s i old new r))
-serves_unshown o stored input g events old new r fault is trace text has =
-    if_both Ghs stored input g events (λ s i. Serves (task.Steps o) s i old new r)
-    (λ s i trace_s text_i. rw is (cant_show o s i g events old new fault trace_s text_i has))
-    trace text
+pub unwritten_steps : {W : Type 0} (p : Protocol) (o : StepsOptions) (r : Result (Unit {0}) ServeFault) (old new : W) →
+    IfErr r (λ fault. is_write fault ≡ false → is_memory fault ≡ false → new ≡ old) →
+    IfErr r (λ fault. is_late (task.Steps p o) fault ≡ false → new ≡ old)
+unwritten_steps p o (Ok u) old new early = tt
+unwritten_steps p o (Err fault) old new early = λ none.
+    early (neither (is_write fault) (is_memory fault) (is_limit fault) none).0 (neither (is_write fault) (is_memory fault) (is_limit fault) none).1

@@ -8,9 +8,6 @@ use Rattle.ghs_explore.specs.declared.row.EndRow.{EndRow}
 use Rattle.ghs_graph.specs.Graph.{Shape}
 use Rattle.peer_network.specs.declared.event.Event.{Event}
 use Rattle.peer_texts.specs.Text.{trace_text}
-use Rattle.peer_trace.specs.declared.protocol.Protocol.{Protocol}
-use Rattle.peer_trace.specs.declared.protocol.Protocol.TheVariants.{Boruvka, Ghs}
-use Rattle.ghs_cli.specs.ExploringInStep as in_step
 use Rattle.ghs_cli.specs.declared.fault.ServeFault.{ServeFault}
 use Rattle.ghs_cli.specs.declared.fault.ServeFault.TheVariants as serve
 use Rattle.ghs_commands.specs.declared.exploring.ExploreOptions.{ExploreOptions}
@@ -44,14 +41,6 @@ abbrev pub IsFound : Finding → ExploreOptions → Shape → List ℕ → Type 
 IsFound Ends o g output = AreEndsOf o g output
 IsFound Run o g output = IsRunOf o g output
 
--- by the protocol that is asked for
-abbrev pub IsExploredBy : Protocol → ExploreOptions → Shape → List ℕ → Type 0
-IsExploredBy Ghs o g output = IsFound o.finding o g output
-IsExploredBy Boruvka o g output = in_step.IsFound o.finding o g output
-
-abbrev pub IsExplored : ExploreOptions → Shape → List ℕ → Type 0
-IsExplored o g output = IsExploredBy o.protocol o g output
-
 -- runs end with the counts of so many rows, and one behind these is asked for
 pub record IsBehind (o : ExploreOptions) (g : Shape) (ends : ℕ) : Type 0 where
   pub asked : o.finding ≡ Run
@@ -69,11 +58,3 @@ FindsNothing o g (serve.NoSuchEnd ends) = IsBehind o g ends
 FindsNothing o g serve.PartLimit = Unit {0}
 FindsNothing o g serve.Memory = Unit {0}
 FindsNothing o g _ = ⊥
-
--- by the protocol that is asked for
-abbrev pub HasNoExplorationBy : Protocol → ExploreOptions → Shape → ServeFault → Type 0
-HasNoExplorationBy Ghs o g fault = FindsNothing o g fault
-HasNoExplorationBy Boruvka o g fault = in_step.FindsNothing o g fault
-
-abbrev pub HasNoExploration : ExploreOptions → Shape → ServeFault → Type 0
-HasNoExploration o g fault = HasNoExplorationBy o.protocol o g fault

@@ -6,16 +6,14 @@ use Rattle.peer_network.specs.declared.event.Event.{Event}
 use Rattle.peer_network.specs.Network.{network_of}
 use Rattle.ghs_protocol.specs.Run.{IsRunUnder}
 use Rattle.ghs_sched.specs.Replays.{IsFirstUnlawful}
-use Rattle.ghs_view.specs.PairPage.{IsPairPage, IsPairTooLarge}
-use Rattle.ghs_view.specs.RunPage.{IsRunPage, IsTooLarge}
+use Rattle.ghs_view.specs.PairPage.{IsPairPage}
+use Rattle.ghs_view.specs.RunPage.{IsRunPage}
+use Rattle.peer_page.specs.Limits.{IsPairTooLarge, IsTooLarge}
 use Rattle.peer_network.specs.Wakes.{may_wake}
 use Rattle.ghs_cli.specs.declared.fault.ServeFault.{ServeFault}
 use Rattle.ghs_cli.specs.declared.fault.ServeFault.TheVariants as serve
 use Rattle.ghs_commands.specs.declared.job.StoredViewOptions.{StoredViewOptions}
 use Rattle.ghs_commands.specs.declared.job.ViewOptions.{ViewOptions}
-use Rattle.peer_trace.specs.declared.protocol.Protocol.{Protocol}
-use Rattle.peer_trace.specs.declared.protocol.Protocol.TheVariants.{Ghs, Boruvka}
-use Rattle.ghs_cli.specs.InStep as in_step
 
 -- the page of the run that a seed picks of a graph, to its end or to its last turn
 pub record IsSeedView (o : ViewOptions) (g : Shape) (output : List ℕ) : Type 0 where
@@ -83,12 +81,3 @@ HasNoStoredView o g events (serve.NotLawful k) = IsFirstUnlawful g o.wake events
 HasNoStoredView o g events serve.PageTooLarge = IsRunUnder (may_wake g o.wake) (network_of g) events × IsTooLarge g events o.to
 HasNoStoredView o g events serve.Memory = Unit {0}
 HasNoStoredView o g events _ = ⊥
-
--- the same by the rules of a protocol
-abbrev pub IsStoredViewBy : Protocol → StoredViewOptions → Shape → List Event → List ℕ → Type 0
-IsStoredViewBy Ghs o g events output = IsStoredView o g events output
-IsStoredViewBy Boruvka o g events output = in_step.IsStoredView o g events output
-
-abbrev pub HasNoStoredViewBy : Protocol → StoredViewOptions → Shape → List Event → ServeFault → Type 0
-HasNoStoredViewBy Ghs o g events fault = HasNoStoredView o g events fault
-HasNoStoredViewBy Boruvka o g events fault = in_step.HasNoStoredView o g events fault

@@ -8,9 +8,9 @@ use crate::fault::ServeFault;
 use crate::viewing::world_of;
 use ghs_commands::job::ViewOptions;
 use ghs_graph::graph::Graph;
-use ghs_view::page::PageFault;
 use ghs_view::pair::pair_page;
 use ghs_world::world::World;
+use peer_page::fault::PageFault;
 use std::alloc::Global;
 
 /// The page of the runs that two seeds pick of a graph: the options' and another.

@@ -1,15 +1,17 @@
 //! Explorations: with which counts of messages all runs of a small network end, and a run of each.
-ghost use Rattle.ghs_cli.specs.Exploring.{AreEndsOf, FindsNothing, HasNoExploration, IsBehind, IsExplored, IsFound, IsRunOf};
-ghost use Rattle.ghs_cli.specs.Serving.{IsExploreCause, IsExploreOutput, is_write};
+ghost use Rattle.ghs_cli.specs.Exploring.{AreEndsOf, FindsNothing, IsBehind, IsFound, IsRunOf};
+ghost use Rattle.ghs_cli.specs.Serving.{IsOfText, IsTextCause, is_write};
+ghost use Rattle.ghs_cli.specs.Verbs.{verbs_of};
 ghost use Rattle.ghs_cli.specs.declared.fault.ServeFault.{ServeFault};
 ghost use Rattle.ghs_commands.specs.Job.{AreExploreLimits};
 ghost use Rattle.ghs_commands.specs.declared.exploring.Finding.{Finding};
 ghost use Rattle.std.specs.Prelude.{◌≡◌, ◌<◌, ◌≤◌, ◌↔◌, false, true, Err, IfErr, IfOk, IfSome, IsErrOf, length};
 
-use crate::exploring_in_step::found_in_step;
+use crate::any_explore;
 use crate::fault::ServeFault;
 use crate::progress::Teller;
 use crate::reading::graph_of;
+use boruvka::protocol::Boruvka;
 use ghs_commands::exploring::{ExploreOptions, Finding};
 use ghs_explore::explore::explore_watched;
 use ghs_explore::explored::Explored;
@@ -26,38 +28,42 @@ use std::alloc::{AllocError, Global};
 pub(crate) fn explored_text_of<S: Source, R: Eprint>(
     rt: &R,
     alloc: Global,
+    protocol: Protocol,
     options: &ExploreOptions,
     graph: &mut S,
 ) -> Result<Vec<u8>, ServeFault>
     requires limits { AreExploreLimits options.now }
     requires graph { S.has_failed graph.old ≡ false }
-    ensures text { IfOk result (λ text. IfSome (S.left graph.old) (λ input. IsExploreOutput options.now input text.items)) }
-    ensures fault { IfErr result (λ fault. IfSome (S.left graph.old) (λ input. IsExploreCause options.now input fault)) }
+    ensures text { IfOk result (λ text. IfSome (S.left graph.old) (λ input. IsOfText ((verbs_of protocol).explores options.now) input text.items)) }
+    ensures fault { IfErr result (λ fault. IfSome (S.left graph.old) (λ input. IsTextCause ((verbs_of protocol).cant_explore options.now) input fault)) }
     ensures early { IfErr result (λ fault. is_write fault ≡ false) }
     ensures read { IsErrOf result ServeFault.Read ↔ (S.has_failed graph.new ≡ true) }
 {
     let graph = graph_of(alloc, graph)?;
-    found_by(rt, alloc, options, &graph)
+    found_by(rt, alloc, protocol, options, &graph)
 }
 
 /// What is found of all runs of a graph by the protocol that is asked for.
 fn found_by<R: Eprint>(
     rt: &R,
     alloc: Global,
+    protocol: Protocol,
     options: &ExploreOptions,
     graph: &Graph,
 ) -> Result<Vec<u8>, ServeFault>
     requires { AreExploreLimits options.now }
-    ensures text { IfOk result (λ text. IsExplored options.now graph.now text.items) }
-    ensures fault { IfErr result (λ fault. HasNoExploration options.now graph.now fault) }
+    ensures text { IfOk result (λ text. (verbs_of protocol).explores options.now graph.now text.items) }
+    ensures fault { IfErr result ((verbs_of protocol).cant_explore options.now graph.now) }
+    ensures early { IfErr result (λ fault. is_write fault ≡ false) }
+    ensures unread { IsErrOf result ServeFault.Read → ⊥ }
 {
-    match options.protocol {
+    match protocol {
         Protocol::Ghs => found(rt, alloc, options, graph),
-        Protocol::Boruvka => found_in_step(rt, alloc, options, graph),
+        Protocol::Boruvka => any_explore::found::<Boruvka, R>(rt, alloc, protocol, options, graph),
     }
 }
 
-/// What is found of all runs of a graph.
+/// What is found of all runs of a graph by GHS.
 fn found<R: Eprint>(
     rt: &R,
     alloc: Global,

@@ -9,15 +9,15 @@
 //! program (`cases/`). docs/ARCHITECTURE.md leads from a command to the crates below.
 #![tactic(auto)]
 
+mod any_explore;
+mod any_run;
+mod any_view;
 mod beside;
 mod charting;
 mod exploring;
-mod exploring_in_step;
 pub mod fault;
-mod in_step;
 mod making;
 pub mod networks;
-mod pages_in_step;
 mod parting;
 mod printing;
 mod progress;

@@ -4,13 +4,16 @@ ghost use Rattle.ghs_protocol.specs.Marks.{HasEnded};
 ghost use Rattle.ghs_protocol.specs.Run.{IsRunUnder};
 ghost use Rattle.ghs_report.specs.ReportText.{IsReportText};
 ghost use Rattle.ghs_world.specs.WorldState.{home, wakers};
-ghost use Rattle.ghs_cli.specs.Serving.{GoesOn, IsReplayCause, IsReplayText, IsReplayed, IsReplayedBy, IsRunCause, IsRunCauseBy, is_write};
+ghost use Rattle.ghs_cli.specs.Running.{GoesOn, IsReplayed, IsRunCause};
+ghost use Rattle.ghs_cli.specs.Serving.{IsBothCause, IsOfBoth, is_write};
+ghost use Rattle.ghs_cli.specs.Verbs.{verbs_of};
 ghost use Rattle.ghs_cli.specs.declared.fault.ServeFault.{ServeFault};
 ghost use Rattle.std.specs.Prelude.{◌≡◌, ◌≤◌, ◌⊎◌, ◌↔◌, false, length, true, IfSome, IsErrOf, OnOk, IfErr, IfOk};
 
+use crate::any_run;
 use crate::fault::ServeFault;
-use crate::in_step;
 use crate::reading::{events_of, graph_of};
+use boruvka::protocol::Boruvka;
 use ghs_gr::device::Source;
 use ghs_graph::graph::Graph;
 use ghs_report::report_text::ReportFault;
@@ -33,8 +36,8 @@ pub(crate) fn replay_text_of<R: Source, T: Source>(
 ) -> Result<Vec<u8>, ServeFault>
     requires graph { R.has_failed graph.old ≡ false }
     requires trace { T.has_failed trace.old ≡ false }
-    ensures text { IfOk result (λ text. IfSome (T.left trace.old) (λ stored. IfSome (R.left graph.old) (λ input. IsReplayText protocol wake stored input text.items))) }
-    ensures fault { IfErr result (λ fault. IfSome (T.left trace.old) (λ stored. IfSome (R.left graph.old) (λ input. IsReplayCause protocol wake stored input fault))) }
+    ensures text { IfOk result (λ text. IfSome (T.left trace.old) (λ stored. IfSome (R.left graph.old) (λ input. IsOfBoth protocol ((verbs_of protocol).replays wake) stored input text.items))) }
+    ensures fault { IfErr result (λ fault. IfSome (T.left trace.old) (λ stored. IfSome (R.left graph.old) (λ input. IsBothCause protocol ((verbs_of protocol).cant_replay wake) stored input fault))) }
     ensures early { IfErr result (λ fault. is_write fault ≡ false) }
     ensures read { IsErrOf result ServeFault.Read ↔ ((R.has_failed graph.new ≡ true) ⊎ (T.has_failed trace.new ≡ true)) }
 {
@@ -52,12 +55,14 @@ fn replayed_by(
     events: &[Event],
 ) -> Result<Vec<u8>, ServeFault>
     requires { length events.now ≤ EVENT_LIMIT }
-    ensures text { IfOk result (λ text. IsReplayedBy protocol wake graph events.now text.items) }
-    ensures fault { IfErr result (λ fault. IsRunCauseBy protocol wake graph events.now fault) }
+    ensures text { IfOk result (λ text. (verbs_of protocol).replays wake graph events.now text.items) }
+    ensures fault { IfErr result ((verbs_of protocol).cant_replay wake graph events.now) }
+    ensures early { IfErr result (λ fault. is_write fault ≡ false) }
+    ensures unread { IsErrOf result ServeFault.Read → ⊥ }
 {
     match protocol {
         Protocol::Ghs => replayed(alloc, wake, graph, events),
-        Protocol::Boruvka => in_step::replayed(alloc, wake, graph, events),
+        Protocol::Boruvka => any_run::replayed::<Boruvka>(alloc, wake, graph, events),
     }
 }
 

@@ -1,4 +1,4 @@
-//! Runs of a network: by the schedule of a seed, or by threads.
+//! Runs of a network, by each protocol; those by GHS go by the schedule of a seed, or by threads.
 ghost use Rattle.ghs_protocol.specs.Marks.{HasEnded};
 ghost use Rattle.ghs_protocol.specs.Run.{IsRun};
 ghost use Rattle.peer_network.specs.Network.{network_of};
@@ -6,17 +6,20 @@ ghost use Rattle.ghs_pool.specs.Ends.{EndFits};
 ghost use Rattle.ghs_pool.specs.Follows.{Follows};
 ghost use Rattle.ghs_world.specs.WorldState.{home};
 ghost use Rattle.ghs_commands.specs.Job.{AreWithinLimits};
-ghost use Rattle.ghs_cli.specs.Ending.{IsBoundedTask};
-ghost use Rattle.ghs_cli.specs.Running.{IsOpened, Stops};
-ghost use Rattle.ghs_cli.specs.Serving.{AreItsLaps, AreItsRounds, IsRan, IsReport, IsRunOutput, IsRunningCause, IsShown, IsStopped, IsTime, IsWholeRun, IsWrite, Serves, StopsRun, is_late};
+ghost use Rattle.ghs_cli.specs.Running.{AreItsLaps, AreItsRounds, IsOpened, IsRan, IsReport, IsShown, IsStopped, IsTime, IsWholeRun, Stops, StopsRun};
+ghost use Rattle.ghs_cli.specs.Serving.{IsBoundedTask, IsOfText, IsTextCause, IsWrite, Serves, is_late};
+ghost use Rattle.ghs_cli.specs.Verbs.{NeverStops, verbs_of};
 ghost use Rattle.ghs_commands.specs.declared.job.Show.TheVariants.{Events};
 ghost use Rattle.ghs_commands.specs.declared.job.Task.{Task};
+ghost use Rattle.peer_trace.specs.declared.protocol.Protocol.{Protocol};
 ghost use Rattle.ghs_cli.specs.declared.fault.ServeFault.{ServeFault};
 ghost use Rattle.std.specs.Prelude.{◌≡◌, ◌≤◌, ◌↔◌, ◌^◌, List, ℕ, length, false, true, IfSome, IsErrOf, OnOk, IfErr, IfOk};
 
+use crate::any_run;
 use crate::fault::ServeFault;
 use crate::progress::{Tallying, run_told, tell_end};
 use crate::reading::graph_of;
+use boruvka::protocol::Boruvka;
 use ghs_commands::job::{RunOptions, Show};
 use ghs_cores::text::put_ended_cores;
 use ghs_gr::device::{Sink, Source};
@@ -34,7 +37,9 @@ use ghs_sched::fault::RunFault;
 use ghs_sched::run::RunEnd;
 use ghs_world::world::World;
 use peer_network::event::Event;
+use peer_report::laws::law_turns;
 use peer_texts::trace::write_trace;
+use peer_trace::protocol::Protocol;
 use std::alloc::Global;
 use std::sync::Wait;
 use std::thread::Threads;
@@ -46,11 +51,12 @@ pub(crate) struct Output {
     pub at_limit: bool,
 }
 
-/// Runs the graph that the device gives, and writes what is asked for of the run. Where its events are asked for, they go
-/// out before the answer that its turns are used.
+/// Runs the graph that the device gives by a protocol, and writes what is asked for of the run. Where its events are asked
+/// for, they go out before the answer that its turns are used.
 pub(crate) fn write_run_of<S: Source, W: Sink, R: Threads + Wait + Eprint + Sync>(
     rt: &R,
     alloc: Global,
+    protocol: Protocol,
     options: &RunOptions,
     graph: &mut S,
     out: &mut W,
@@ -58,14 +64,15 @@ pub(crate) fn write_run_of<S: Source, W: Sink, R: Threads + Wait + Eprint + Sync
     requires limits { AreWithinLimits options.now }
     requires graph { S.has_failed graph.old ≡ false }
     requires out { W.has_failed out.old ≡ false }
-    ensures serves { (stored : List ℕ) → IfSome (S.left graph.old) (λ input. Serves (Task.Run options.now) stored input (W.held out.old) (W.held out.new) result) }
+    ensures serves { (stored : List ℕ) → IfSome (S.left graph.old) (λ input. Serves (Task.Run protocol options.now) stored input (W.held out.old) (W.held out.new) result) }
     ensures read { IsErrOf result ServeFault.Read ↔ (S.has_failed graph.new ≡ true) }
     ensures write { IsWrite result ↔ (W.has_failed out.new ≡ true) }
-    ensures ends { IfSome (S.left graph.old) (λ input. IsBoundedTask (Task.Run options.now) input → IsErrOf result ServeFault.TurnLimit → ⊥) }
-    ensures unwritten { IfErr result (λ fault. is_late (Task.Run options.now) fault ≡ false → out.new ≡ out.old) }
+    ensures ends { IfSome (S.left graph.old) (λ input. IsBoundedTask (Task.Run protocol options.now) input → IsErrOf result ServeFault.TurnLimit → ⊥) }
+    ensures unwritten { IfErr result (λ fault. is_late (Task.Run protocol options.now) fault ≡ false → out.new ≡ out.old) }
 {
     law_one_judgement();
-    let output = run_output_of(rt, alloc, options, graph)?;
+    law_never_stops(protocol);
+    let output = output_of(rt, alloc, protocol, options, graph)?;
     write_out(out, &output.text)?;
     if output.at_limit {
         return Err(ServeFault::TurnLimit);
@@ -73,22 +80,70 @@ pub(crate) fn write_run_of<S: Source, W: Sink, R: Threads + Wait + Eprint + Sync
     Ok(())
 }
 
+/// A run by a protocol that has turns for all its events isn't stopped at its turns. The law is a function that does nothing.
+fn law_never_stops(protocol: Protocol)
+    ensures { NeverStops (verbs_of protocol) }
+{
+    match protocol {
+        Protocol::Ghs => {}
+        Protocol::Boruvka => law_turns::<Boruvka>(),
+    }
+}
+
 /// What goes out of a run of the graph that the device gives.
-fn run_output_of<S: Source, R: Threads + Wait + Eprint + Sync>(
+fn output_of<S: Source, R: Threads + Wait + Eprint + Sync>(
     rt: &R,
     alloc: Global,
+    protocol: Protocol,
     options: &RunOptions,
     graph: &mut S,
 ) -> Result<Output, ServeFault>
     requires limits { AreWithinLimits options.now }
     requires graph { S.has_failed graph.old ≡ false }
-    ensures output { IfOk result (λ o. IfSome (S.left graph.old) (λ input. IsRunOutput options.now o.at_limit input o.text.items)) }
+    ensures output { IfOk result (λ o. IfSome (S.left graph.old) (λ input. IsOfText (λ g. (verbs_of protocol).runs options.now g o.at_limit) input o.text.items)) }
     ensures limit { IfOk result (λ o. o.at_limit ≡ true → options.now.show ≡ Events) }
-    ensures fault { IfErr result (λ fault. IfSome (S.left graph.old) (λ input. IsRunningCause options.now input fault)) }
-    ensures early { IfErr result (λ fault. is_late (Task.Run options.now) fault ≡ false) }
+    ensures fault { IfErr result (λ fault. IfSome (S.left graph.old) (λ input. IsTextCause ((verbs_of protocol).stops options.now) input fault)) }
+    ensures early { IfErr result (λ fault. is_late (Task.Run protocol options.now) fault ≡ false) }
     ensures read { IsErrOf result ServeFault.Read ↔ (S.has_failed graph.new ≡ true) }
 {
     let graph = graph_of(alloc, graph)?;
+    ran_by(rt, alloc, protocol, options, graph)
+}
+
+/// What goes out of a run of a graph by a protocol.
+fn ran_by<R: Threads + Wait + Eprint + Sync>(
+    rt: &R,
+    alloc: Global,
+    protocol: Protocol,
+    options: &RunOptions,
+    graph: Graph,
+) -> Result<Output, ServeFault>
+    requires limits { AreWithinLimits options.now }
+    ensures output { IfOk result (λ o. (verbs_of protocol).runs options.now graph o.at_limit o.text.items) }
+    ensures limit { IfOk result (λ o. o.at_limit ≡ true → options.now.show ≡ Events) }
+    ensures fault { IfErr result ((verbs_of protocol).stops options.now graph) }
+    ensures early { IfErr result (λ fault. is_late (Task.Run protocol options.now) fault ≡ false) }
+    ensures unread { IsErrOf result ServeFault.Read → ⊥ }
+{
+    match protocol {
+        Protocol::Ghs => ran(rt, alloc, options, graph),
+        Protocol::Boruvka => any_run::ran::<Boruvka>(alloc, protocol, options, graph),
+    }
+}
+
+/// What goes out of a run of a graph by GHS.
+fn ran<R: Threads + Wait + Eprint + Sync>(
+    rt: &R,
+    alloc: Global,
+    options: &RunOptions,
+    graph: Graph,
+) -> Result<Output, ServeFault>
+    requires limits { AreWithinLimits options.now }
+    ensures output { IfOk result (λ o. IsRan options.now graph o.at_limit o.text.items) }
+    ensures limit { IfOk result (λ o. o.at_limit ≡ true → options.now.show ≡ Events) }
+    ensures fault { IfErr result (StopsRun options.now graph) }
+    ensures early { IfErr result (λ fault. is_late (Task.Run Protocol.Ghs options.now) fault ≡ false) }
+{
     let Ok(world) = World::open(alloc, graph, options.wake, options.turns) else {
         return Err(ServeFault::Memory);
     };
@@ -220,7 +275,7 @@ fn printed(
     ensures output { IfOk result (λ o. IsRan options.now world.now.net.graph o.at_limit o.text.items) }
     ensures limit { IfOk result (λ o. o.at_limit ≡ true → options.now.show ≡ Events) }
     ensures fault { IfErr result (StopsRun options.now world.now.net.graph) }
-    ensures early { IfErr result (λ fault. is_late (Task.Run options.now) fault ≡ false) }
+    ensures early { IfErr result (λ fault. is_late (Task.Run Protocol.Ghs options.now) fault ≡ false) }
 {
     match end {
         Ok(_) => {
@@ -315,7 +370,7 @@ fn stopped(alloc: Global, options: &RunOptions, world: &World) -> Result<Output,
     ensures output { IfOk result (λ o. IsRan options.now world.now.net.graph o.at_limit o.text.items) }
     ensures asked { OnOk result (options.now.show ≡ Events) }
     ensures fault { IfErr result (StopsRun options.now world.now.net.graph) }
-    ensures early { IfErr result (λ fault. is_late (Task.Run options.now) fault ≡ false) }
+    ensures early { IfErr result (λ fault. is_late (Task.Run Protocol.Ghs options.now) fault ≡ false) }
 {
     match options.show {
         Show::Summary | Show::Time => Err(ServeFault::TurnLimit),

@@ -1,15 +1,12 @@
 //! The work that a job asks for.
-ghost use Rattle.ghs_cli.specs.Ending.{IsBoundedTask};
 ghost use Rattle.ghs_commands.specs.Job.{IsWithinLimits};
-ghost use Rattle.ghs_cli.specs.Serving.{IfStored, IsGraphCause, IsTreeText, IsUnread, IsUnwritten, IsWrite, Serves, is_write};
+ghost use Rattle.ghs_cli.specs.Serving.{IfStored, IsBoundedTask, IsGraphCause, IsTreeText, IsUnread, IsUnwritten, IsWrite, Serves, is_write};
 ghost use Rattle.ghs_cli.specs.declared.fault.ServeFault.{ServeFault};
 ghost use Rattle.std.specs.Prelude.{◌≡◌, ◌⊎◌, ◌↔◌, false, true, IfSome, IsErrOf, IfErr, IfOk};
 
 use crate::exploring::explored_text_of;
 use crate::fault::ServeFault;
-use crate::in_step::{boruvka_sweep_text_of, write_boruvka_of, write_boruvka_steps_of};
 use crate::making::write_network_of;
-use crate::pages_in_step::boruvka_view_of;
 use crate::printing::print;
 use crate::replaying::replay_text_of;
 use crate::running::write_run_of;
@@ -36,7 +33,7 @@ use std::thread::Threads;
 /// written is passed over. Where the events of a run are asked for, they go out before the answer that its turns are
 /// used, and a write that fails then is answered in its place. A patient run, one by rounds, or one of what was sent
 /// last, without threads, that has turns for 2(B + N) events, B the bound and N the nodes, is never answered by its
-/// turns; nor is a run by Borůvka in step that has turns for its bound and the nodes.
+/// turns; nor is a run by another protocol that has turns for its bound and the nodes.
 ///
 /// ```text
 /// let job = read_job(alloc, &words)?;                       // the word tree
@@ -65,22 +62,26 @@ pub fn serve<R: Source, T: Source, W: Sink, H: Threads + Wait + Eprint + Sync>(
 {
     match &job.task {
         Task::Tree { core } => print(tree_text_of(alloc, *core, graph), out),
-        Task::Run(options) => write_run_of(rt, alloc, options, graph, out),
-        Task::Boruvka(options) => write_boruvka_of(alloc, options, graph, out),
+        Task::Run { protocol, options } => write_run_of(rt, alloc, *protocol, options, graph, out),
         Task::Replay { protocol, wake } => {
             print(replay_text_of(alloc, *protocol, *wake, graph, trace), out)
         }
-        Task::Steps(options) => write_steps_of(alloc, options, graph, trace, out),
-        Task::BoruvkaSteps(options) => write_boruvka_steps_of(alloc, options, graph, trace, out),
-        Task::Sweep(options) => print(sweep_text_of(rt, alloc, options, graph), out),
-        Task::BoruvkaSweep(options) => print(boruvka_sweep_text_of(alloc, options, graph), out),
-        Task::View(options) => print(view_text_of(alloc, options, graph), out),
-        Task::BoruvkaView(options) => print(boruvka_view_of(alloc, options, graph), out),
+        Task::Steps { protocol, options } => {
+            write_steps_of(alloc, *protocol, options, graph, trace, out)
+        }
+        Task::Sweep { protocol, options } => {
+            print(sweep_text_of(rt, alloc, *protocol, options, graph), out)
+        }
+        Task::View { protocol, options } => {
+            print(view_text_of(alloc, *protocol, options, graph), out)
+        }
         Task::StoredView { protocol, options } => {
             print(stored_view_of(alloc, *protocol, options, graph, trace), out)
         }
+        Task::Explore { protocol, options } => {
+            print(explored_text_of(rt, alloc, *protocol, options, graph), out)
+        }
         Task::Make(asked) => write_network_of(alloc, asked, out),
-        Task::Explore(options) => print(explored_text_of(rt, alloc, options, graph), out),
     }
 }
 

@@ -1,8 +1,9 @@
 //! Sweeps: the figures of many seeds' runs, or what they come to.
 ghost use Rattle.ghs_commands.specs.Job.{AreSweepLimits};
 ghost use Rattle.ghs_cli.specs.Charts.{IsSweepText};
-ghost use Rattle.ghs_cli.specs.Serving.{IsGraphCause, IsSweepOutput, is_write};
+ghost use Rattle.ghs_cli.specs.Serving.{IsGraphCause, IsOfText, is_write};
 ghost use Rattle.ghs_cli.specs.Sweeping.{AreLines, AreSheetLines, AreSweptLines, IsSwept, count_of, head_by, head_of, setup_of};
+ghost use Rattle.ghs_cli.specs.Verbs.{boruvka_sweeps, verbs_of};
 ghost use Rattle.ghs_sweep.specs.Figures.{HasSmallWeight};
 ghost use Rattle.ghs_sweep.specs.Sweep.{AreRuns};
 ghost use Rattle.ghs_cli.specs.declared.fault.ServeFault.{ServeFault};
@@ -13,6 +14,7 @@ use crate::fault::ServeFault;
 use crate::parting::put_parted;
 use crate::progress::tell_seeds;
 use crate::reading::graph_of;
+use boruvka_sweep::sweep;
 use ghs_choices::by::By;
 use ghs_choices::form::Form;
 use ghs_commands::job::{Sheet, SweepOptions};
@@ -27,6 +29,7 @@ use ghs_sweep::lines::put_runs;
 use ghs_sweep::runs::run_seeds;
 use ghs_sweep::seeded::Setup;
 use ghs_sweep::summary::{SUMMARY_HEAD, put_summary};
+use peer_trace::protocol::Protocol;
 use std::alloc::{AllocError, Global};
 use std::thread::Threads;
 
@@ -37,21 +40,52 @@ const BATCH: u64 = 4_000_000;
 pub(crate) fn sweep_text_of<S: Source, R: Threads + Sync + Eprint>(
     rt: &R,
     alloc: Global,
+    protocol: Protocol,
     options: &SweepOptions,
     graph: &mut S,
 ) -> Result<Vec<u8>, ServeFault>
     requires limits { AreSweepLimits options.now }
     requires graph { S.has_failed graph.old ≡ false }
-    ensures text { IfOk result (λ text. IfSome (S.left graph.old) (λ input. IsSweepOutput options.now input text.items)) }
+    ensures text { IfOk result (λ text. IfSome (S.left graph.old) (λ input. IsOfText ((verbs_of protocol).sweeps options.now) input text.items)) }
     ensures fault { IfErr result (λ fault. IfSome (S.left graph.old) (λ input. IsGraphCause input fault)) }
     ensures early { IfErr result (λ fault. is_write fault ≡ false) }
     ensures read { IsErrOf result ServeFault.Read ↔ (S.has_failed graph.new ≡ true) }
 {
     let graph = graph_of(alloc, graph)?;
-    Ok(sweep_text(rt, alloc, options, &graph)?)
+    Ok(swept_by(rt, alloc, protocol, options, &graph)?)
 }
 
-/// What a sweep of a graph prints: lines, or a chart.
+/// What a sweep of a graph by a protocol prints.
+fn swept_by<R: Threads + Sync + Eprint>(
+    rt: &R,
+    alloc: Global,
+    protocol: Protocol,
+    options: &SweepOptions,
+    graph: &Graph,
+) -> Result<Vec<u8>, AllocError>
+    requires { AreSweepLimits options.now }
+    ensures { IfOk result (λ text. (verbs_of protocol).sweeps options.now graph.now text.items) }
+{
+    match protocol {
+        Protocol::Ghs => sweep_text(rt, alloc, options, graph),
+        Protocol::Boruvka => boruvka_text(alloc, options, graph),
+    }
+}
+
+/// What a sweep of a graph by Borůvka in step prints.
+fn boruvka_text(alloc: Global, options: &SweepOptions, graph: &Graph) -> Result<Vec<u8>, AllocError>
+    requires { AreSweepLimits options.now }
+    ensures { IfOk result (λ text. boruvka_sweeps options.now graph.now text.items) }
+{
+    let Seeds { first, last } = options.seeds;
+    let setup = sweep::Setup {
+        wake: options.wake,
+        turns: options.turns,
+    };
+    sweep::sweep_text(alloc, graph, setup, first, last)
+}
+
+/// What a sweep of a graph by GHS prints: lines, or a chart.
 fn sweep_text<R: Threads + Sync + Eprint>(
     rt: &R,
     alloc: Global,

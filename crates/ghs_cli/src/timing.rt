@@ -1,20 +1,20 @@
-//! The time of a run by Borůvka in step, as a text.
-ghost use Rattle.ghs_cli.specs.InStep.{timed_text};
+//! The time of a run by any protocol, as a text.
+ghost use Rattle.ghs_cli.specs.AnyRun.{timed_text};
 ghost use Rattle.ghs_picking.specs.Time.{bits_line, chain_line};
 ghost use Rattle.std.specs.Prelude.{◌≡◌, ◌++◌, IfOk};
 
-use boruvka::protocol::Boruvka;
 use ghs_lines::numbers::put_number;
 use peer_lengths::lengths::lengths_of;
+use peer_machine::measured::Measured;
 use peer_net::net::Net;
 use std::alloc::{AllocError, Global};
 
 /// The time of a net's run and its bits: a line of its longest chain, and one of how many bits its messages have, and how many
 /// the longest has. The events are played once more for it. Refusal: out of memory.
-pub(crate) fn time_text_of(alloc: Global, net: &Net<Boruvka>) -> Result<Vec<u8>, AllocError>
-    ensures { IfOk result (λ text. text.items ≡ timed_text net.now.graph net.now.trace) }
+pub(crate) fn time_text_of<P: Measured>(alloc: Global, net: &Net<P>) -> Result<Vec<u8>, AllocError>
+    ensures { IfOk result (λ text. text.items ≡ timed_text P.rules net.now.graph net.now.trace) }
 {
-    let lengths = lengths_of::<Boruvka>(alloc, net.graph(), net.trace())?;
+    let lengths = lengths_of::<P>(alloc, net.graph(), net.trace())?;
     let mut text = Vec::new(alloc);
     put_chain(&mut text, lengths.chain)?;
     put_bits(&mut text, lengths.bits, lengths.longest)?;

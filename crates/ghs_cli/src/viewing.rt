@@ -1,25 +1,29 @@
 //! Pages of runs: of the run that a seed picks, of the runs of two, and of a stored one.
 ghost use Rattle.ghs_commands.specs.Job.{AreViewLimits};
-ghost use Rattle.ghs_cli.specs.Serving.{IsStoredViewCause, IsStoredViewOutput, IsViewCause, IsViewOutput, is_write};
-ghost use Rattle.ghs_cli.specs.Viewing.{HasNoSeedView, HasNoStoredView, HasNoStoredViewBy, HasNoView, IsSeedView, IsStoredView, IsStoredViewBy, IsView};
+ghost use Rattle.ghs_cli.specs.Serving.{IsBothCause, IsOfBoth, IsOfText, IsTextCause, is_write};
+ghost use Rattle.ghs_cli.specs.Verbs.{verbs_of};
+ghost use Rattle.ghs_cli.specs.Viewing.{HasNoSeedView, HasNoStoredView, HasNoView, IsSeedView, IsStoredView, IsView};
 ghost use Rattle.ghs_cli.specs.declared.fault.ServeFault.{ServeFault};
 ghost use Rattle.ghs_picking.specs.Picking.{IsPickedBy};
-ghost use Rattle.ghs_view.specs.RunPage.{IsRunPage, IsTooLarge};
+ghost use Rattle.ghs_view.specs.RunPage.{IsRunPage};
+ghost use Rattle.peer_page.specs.Limits.{IsTooLarge};
 ghost use Rattle.std.specs.Prelude.{◌≡◌, ◌≤◌, ◌⊎◌, ◌↔◌, false, length, true, IfSome, IsErrOf, IfErr, IfOk};
 
+use crate::any_view;
 use crate::beside::pair_viewed;
 use crate::fault::ServeFault;
-use crate::pages_in_step;
 use crate::reading::{events_of, graph_of};
+use boruvka::protocol::Boruvka;
 use ghs_commands::job::{StoredViewOptions, ViewOptions};
 use ghs_gr::device::Source;
 use ghs_graph::graph::Graph;
 use ghs_picking::picking::run_by_seed;
 use ghs_sched::fault::RunFault;
-use ghs_view::page::{PageFault, run_page};
-use ghs_view::stored::{StoredFault, stored_page};
+use ghs_view::page::run_page;
+use ghs_view::stored::stored_page;
 use ghs_world::world::World;
 use peer_network::event::Event;
+use peer_page::fault::{PageFault, StoredFault};
 use peer_texts::trace::EVENT_LIMIT;
 use peer_trace::protocol::Protocol;
 use std::alloc::Global;
@@ -27,21 +31,41 @@ use std::alloc::Global;
 /// The page of the run that a seed picks of the graph that the device gives, or of the runs of two.
 pub(crate) fn view_text_of<S: Source>(
     alloc: Global,
+    protocol: Protocol,
     options: &ViewOptions,
     graph: &mut S,
 ) -> Result<Vec<u8>, ServeFault>
     requires limits { AreViewLimits options.now }
     requires graph { S.has_failed graph.old ≡ false }
-    ensures text { IfOk result (λ text. IfSome (S.left graph.old) (λ input. IsViewOutput options.now input text.items)) }
-    ensures fault { IfErr result (λ fault. IfSome (S.left graph.old) (λ input. IsViewCause options.now input fault)) }
+    ensures text { IfOk result (λ text. IfSome (S.left graph.old) (λ input. IsOfText ((verbs_of protocol).views options.now) input text.items)) }
+    ensures fault { IfErr result (λ fault. IfSome (S.left graph.old) (λ input. IsTextCause ((verbs_of protocol).cant_view options.now) input fault)) }
     ensures early { IfErr result (λ fault. is_write fault ≡ false) }
     ensures read { IsErrOf result ServeFault.Read ↔ (S.has_failed graph.new ≡ true) }
 {
     let graph = graph_of(alloc, graph)?;
-    viewed(alloc, options, graph)
+    viewed_by(alloc, protocol, options, graph)
 }
 
-/// The page of the run that a seed picks of a graph, or of the runs of two.
+/// The page of a run of a graph by a protocol, or of two.
+fn viewed_by(
+    alloc: Global,
+    protocol: Protocol,
+    options: &ViewOptions,
+    graph: Graph,
+) -> Result<Vec<u8>, ServeFault>
+    requires { AreViewLimits options.now }
+    ensures text { IfOk result (λ text. (verbs_of protocol).views options.now graph text.items) }
+    ensures fault { IfErr result ((verbs_of protocol).cant_view options.now graph) }
+    ensures early { IfErr result (λ fault. is_write fault ≡ false) }
+    ensures unread { IsErrOf result ServeFault.Read → ⊥ }
+{
+    match protocol {
+        Protocol::Ghs => viewed(alloc, options, graph),
+        Protocol::Boruvka => any_view::viewed::<Boruvka>(alloc, options, graph),
+    }
+}
+
+/// The page of the run that a seed picks of a graph, or of the runs of two, by GHS.
 fn viewed(alloc: Global, options: &ViewOptions, graph: Graph) -> Result<Vec<u8>, ServeFault>
     requires { AreViewLimits options.now }
     ensures text { IfOk result (λ text. IsView options.now graph text.items) }
@@ -115,8 +139,8 @@ pub(crate) fn stored_view_of<R: Source, T: Source>(
 ) -> Result<Vec<u8>, ServeFault>
     requires graph { R.has_failed graph.old ≡ false }
     requires trace { T.has_failed trace.old ≡ false }
-    ensures text { IfOk result (λ text. IfSome (T.left trace.old) (λ stored. IfSome (R.left graph.old) (λ input. IsStoredViewOutput protocol options.now stored input text.items))) }
-    ensures fault { IfErr result (λ fault. IfSome (T.left trace.old) (λ stored. IfSome (R.left graph.old) (λ input. IsStoredViewCause protocol options.now stored input fault))) }
+    ensures text { IfOk result (λ text. IfSome (T.left trace.old) (λ stored. IfSome (R.left graph.old) (λ input. IsOfBoth protocol ((verbs_of protocol).views_stored options.now) stored input text.items))) }
+    ensures fault { IfErr result (λ fault. IfSome (T.left trace.old) (λ stored. IfSome (R.left graph.old) (λ input. IsBothCause protocol ((verbs_of protocol).cant_view_stored options.now) stored input fault))) }
     ensures early { IfErr result (λ fault. is_write fault ≡ false) }
     ensures read { IsErrOf result ServeFault.Read ↔ ((R.has_failed graph.new ≡ true) ⊎ (T.has_failed trace.new ≡ true)) }
 {
@@ -134,12 +158,14 @@ fn stored_viewed_by(
     events: &[Event],
 ) -> Result<Vec<u8>, ServeFault>
     requires { length events.now ≤ EVENT_LIMIT }
-    ensures text { IfOk result (λ text. IsStoredViewBy protocol options.now graph events.now text.items) }
-    ensures fault { IfErr result (λ fault. HasNoStoredViewBy protocol options.now graph events.now fault) }
+    ensures text { IfOk result (λ text. (verbs_of protocol).views_stored options.now graph events.now text.items) }
+    ensures fault { IfErr result ((verbs_of protocol).cant_view_stored options.now graph events.now) }
+    ensures early { IfErr result (λ fault. is_write fault ≡ false) }
+    ensures unread { IsErrOf result ServeFault.Read → ⊥ }
 {
     match protocol {
         Protocol::Ghs => stored_viewed(alloc, options, graph, events),
-        Protocol::Boruvka => pages_in_step::stored_viewed(alloc, options, graph, events),
+        Protocol::Boruvka => any_view::stored_viewed::<Boruvka>(alloc, options, graph, events),
     }
 }
 

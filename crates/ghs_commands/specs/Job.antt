@@ -22,9 +22,6 @@ use Rattle.ghs_commands.specs.declared.job.JobFault.TheVariants as fault
 use Rattle.ghs_choices.specs.declared.choice.Choice.{Choice}
 use Rattle.ghs_choices.specs.declared.form.Form.{Form}
 use Rattle.ghs_choices.specs.declared.form.Form.TheVariants.{Json}
-use Rattle.ghs_commands.specs.declared.boruvka.BoruvkaOptions.{BoruvkaOptions}
-use Rattle.ghs_commands.specs.declared.boruvka.BoruvkaSweepOptions.{BoruvkaSweepOptions}
-use Rattle.ghs_commands.specs.declared.boruvka.BoruvkaViewOptions.{BoruvkaViewOptions}
 use Rattle.ghs_commands.specs.declared.exploring.ExploreOptions.{ExploreOptions}
 use Rattle.ghs_commands.specs.declared.exploring.Finding.{Finding}
 use Rattle.ghs_commands.specs.declared.exploring.Finding.TheVariants.{Run}
@@ -47,7 +44,7 @@ use Rattle.ghs_commands.specs.Networks.{are_read_once, are_several, named_of, va
 use Rattle.ghs_choices.specs.declared.by.By.{By}
 use Rattle.peer_trace.specs.Protocol.{protocol_named}
 use Rattle.peer_trace.specs.declared.protocol.Protocol.{Protocol}
-use Rattle.peer_trace.specs.declared.protocol.Protocol.TheVariants.{Boruvka, Ghs}
+use Rattle.peer_trace.specs.declared.protocol.Protocol.TheVariants.{Ghs}
 use Rattle.ghs_commands.specs.Parts.{by_named, go_together, is_part, is_said}
 use Rattle.ghs_commands.specs.Protocols.{is_protocol}
 use Rattle.ghs_commands.specs.TwoSeeds.{are_two, two_seeds_of}
@@ -170,13 +167,6 @@ pub record AreOptions (command : Used) (o : RunOptions) : Type 0 where
 abbrev pub protocol_in : Used → Protocol
 protocol_in command = unwrap_or (option_and_then protocol_named (value_in (codes "protocol") command)) Ghs
 
--- how a command asks for a network to be run by that protocol
-pub record AreBoruvkaOptions (command : Used) (o : BoruvkaOptions) : Type 0 where
-  pub seed : o.seed ≡ seed_in command
-  pub wake : IsWake command o.wake
-  pub turns : o.turns ≡ turns_in command
-  pub show : IsShow command o.show
-
 -- which runs a command asks to be swept
 pub record AreSweepOptions (command : Used) (o : SweepOptions) : Type 0 where
   pub seeds : o.seeds ≡ seeds_at command
@@ -188,12 +178,6 @@ pub record AreSweepOptions (command : Used) (o : SweepOptions) : Type 0 where
   pub by : o.by ≡ by_in command
   pub form : IsForm command o.form
   pub progress : IsToldOf command o.progress
-
--- and which runs by Borůvka in step
-pub record AreBoruvkaSweepOptions (command : Used) (o : BoruvkaSweepOptions) : Type 0 where
-  pub seeds : o.seeds ≡ seeds_at command
-  pub wake : IsWake command o.wake
-  pub turns : o.turns ≡ turns_in command
 
 -- the networks of a sweep whose lines begin with names, as the files and `--names`, which has no value of its own, say
 pub record AreNetworks (command : Used) (names : List Text) : Type 0 where
@@ -213,18 +197,11 @@ pub record AreStepsOptions (command : Used) (o : StepsOptions) : Type 0 where
   pub choice : IsChoice command o.choice
   pub form : IsForm command o.form
 
--- which page a command asks for: of the run that a seed picks, or of the runs of two; of a seed's run by Borůvka in step; of a stored one
+-- which page a command asks for: of the run that a seed picks, or of the runs of two; of a stored one
 pub record AreViewOptions (command : Used) (o : ViewOptions) : Type 0 where
   pub seed : o.seed ≡ first_seed_in command
   pub beside : o.beside ≡ second_seed_in command
   pub schedule_kind : IsScheduleKind command o.schedule_kind
-  pub wake : IsWake command o.wake
-  pub turns : o.turns ≡ turns_in command
-  pub from : o.from ≡ from_in command
-  pub to : o.to ≡ to_in command
-
-pub record AreBoruvkaViewOptions (command : Used) (o : BoruvkaViewOptions) : Type 0 where
-  pub seed : o.seed ≡ seed_in command
   pub wake : IsWake command o.wake
   pub turns : o.turns ≡ turns_in command
   pub from : o.from ≡ from_in command
@@ -260,7 +237,6 @@ IsFinding command finding = (finding ≡ Run) ↔ (value_in (codes "found") comm
 
 -- which exploration a command asks for
 pub record AreExploreOptions (command : Used) (o : ExploreOptions) : Type 0 where
-  pub protocol : o.protocol ≡ protocol_in command
   pub wake : IsWake command o.wake
   pub limit : o.limit ≡ number_at (codes "limit") 1 MOST_STATES command
   pub finding : IsFinding command o.finding
@@ -277,43 +253,33 @@ pub record IsNoOther (command : Used) : Type 0 where
   pub make : name_in command ≢ Some (codes "make")
   pub explore : name_in command ≢ Some (codes "explore")
 
--- it asks for a page of a run by a protocol
-pub record IsView (protocol : Protocol) (command : Used) : Type 0 where
-  pub view : name_in command ≡ Some (codes "view")
-  pub by : protocol_in command ≡ protocol
-
--- of a seed's run, or of a stored one
+-- it asks for a page of a seed's run, or of a stored one
 abbrev pub IsOfSeed : Used → Type 0
 IsOfSeed command = value_in (codes "TRACE") command ≡ None
 
 abbrev pub IsOfStored : Used → Type 0
 IsOfStored command = value_in (codes "TRACE") command ≢ None
 
+-- it has this name, and the protocol that it names is this one
+pub record IsOf (command : Used) (name : Text) (protocol : Protocol) : Type 0 where
+  pub named : name_in command ≡ Some name
+  pub by : protocol_in command ≡ protocol
+
 -- the task that a command asks for
 abbrev pub IsTask : Used → Task → Type 0
 IsTask command (task.Tree core) = IsNoOther command × IsCoreOf command core
-IsTask command (task.Run options) = (name_in command ≡ Some (codes "run")) × (protocol_in command ≡ Ghs) × AreOptions command options
-IsTask command (task.Boruvka options) = (name_in command ≡ Some (codes "run")) × (protocol_in command ≡ Boruvka) × AreBoruvkaOptions command options
-IsTask command (task.Replay protocol wake) = (name_in command ≡ Some (codes "replay")) × (protocol ≡ protocol_in command) × IsWake command wake
-IsTask command (task.Steps options) = (name_in command ≡ Some (codes "steps")) × (protocol_in command ≡ Ghs) × AreStepsOptions command options
-IsTask command (task.BoruvkaSteps options) =
-    (name_in command ≡ Some (codes "steps")) × (protocol_in command ≡ Boruvka) × AreStepsOptions command options
-IsTask command (task.Sweep options) = (name_in command ≡ Some (codes "sweep")) × (protocol_in command ≡ Ghs) × AreSweepOptions command options
-IsTask command (task.BoruvkaSweep options) =
-    (name_in command ≡ Some (codes "sweep")) × (protocol_in command ≡ Boruvka) × AreBoruvkaSweepOptions command options
-IsTask command (task.View options) = IsView Ghs command × IsOfSeed command × AreViewOptions command options
-IsTask command (task.BoruvkaView options) = IsView Boruvka command × IsOfSeed command × AreBoruvkaViewOptions command options
-IsTask command (task.StoredView protocol options) = IsView protocol command × IsOfStored command × AreStoredViewOptions command options
+IsTask command (task.Run p options) = IsOf command (codes "run") p × AreOptions command options
+IsTask command (task.Replay p wake) = IsOf command (codes "replay") p × IsWake command wake
+IsTask command (task.Steps p options) = IsOf command (codes "steps") p × AreStepsOptions command options
+IsTask command (task.Sweep p options) = IsOf command (codes "sweep") p × AreSweepOptions command options
+IsTask command (task.View p options) = IsOf command (codes "view") p × IsOfSeed command × AreViewOptions command options
+IsTask command (task.StoredView p options) = IsOf command (codes "view") p × IsOfStored command × AreStoredViewOptions command options
+IsTask command (task.Explore p options) = IsOf command (codes "explore") p × AreExploreOptions command options
 IsTask command (task.Make asked) = (name_in command ≡ Some (codes "make")) × IsAsked command asked
-IsTask command (task.Explore options) = (name_in command ≡ Some (codes "explore")) × AreExploreOptions command options
 
 -- numbers are within their limits
 pub record AreWithinLimits (o : RunOptions) : Type 0 where
   pub workers : o.workers ≤ MOST_WORKERS
-  pub some : 1 ≤ o.turns
-  pub few : o.turns ≤ EVENT_LIMIT
-
-pub record AreBoruvkaLimits (o : BoruvkaOptions) : Type 0 where
   pub some : 1 ≤ o.turns
   pub few : o.turns ≤ EVENT_LIMIT
 
@@ -323,16 +289,7 @@ pub record AreSweepLimits (o : SweepOptions) : Type 0 where
   pub some : 1 ≤ o.turns
   pub few : o.turns ≤ EVENT_LIMIT
 
-pub record AreBoruvkaSweepLimits (o : BoruvkaSweepOptions) : Type 0 where
-  pub seeds : AreSeeds o.seeds
-  pub some : 1 ≤ o.turns
-  pub few : o.turns ≤ EVENT_LIMIT
-
 pub record AreViewLimits (o : ViewOptions) : Type 0 where
-  pub some : 1 ≤ o.turns
-  pub few : o.turns ≤ EVENT_LIMIT
-
-pub record AreBoruvkaViewLimits (o : BoruvkaViewOptions) : Type 0 where
   pub some : 1 ≤ o.turns
   pub few : o.turns ≤ EVENT_LIMIT
 
@@ -342,19 +299,11 @@ pub record AreExploreLimits (o : ExploreOptions) : Type 0 where
 
 -- a task's numbers are
 abbrev pub IsWithinLimits : Task → Type 0
-IsWithinLimits (task.Tree core) = Unit {0}
-IsWithinLimits (task.Run options) = AreWithinLimits options
-IsWithinLimits (task.Boruvka options) = AreBoruvkaLimits options
-IsWithinLimits (task.Replay protocol wake) = Unit {0}
-IsWithinLimits (task.Steps options) = Unit {0}
-IsWithinLimits (task.BoruvkaSteps options) = Unit {0}
-IsWithinLimits (task.Sweep options) = AreSweepLimits options
-IsWithinLimits (task.BoruvkaSweep options) = AreBoruvkaSweepLimits options
-IsWithinLimits (task.View options) = AreViewLimits options
-IsWithinLimits (task.BoruvkaView options) = AreBoruvkaViewLimits options
-IsWithinLimits (task.StoredView protocol options) = Unit {0}
-IsWithinLimits (task.Make asked) = Unit {0}
-IsWithinLimits (task.Explore options) = AreExploreLimits options
+IsWithinLimits (task.Run p options) = AreWithinLimits options
+IsWithinLimits (task.Sweep p options) = AreSweepLimits options
+IsWithinLimits (task.View p options) = AreViewLimits options
+IsWithinLimits (task.Explore p options) = AreExploreLimits options
+IsWithinLimits _ = Unit {0}
 
 -- what is printed of a run, of a sweep or of an exploration is one of its choices
 abbrev pub has_prints : Used → Bool
@@ -405,10 +354,10 @@ has_network command =
 abbrev pub has_seeds : Used → Bool
 has_seeds command = is_range (value_in (codes "seeds") command) && are_two (value_in (codes "pair") command)
 
--- how a network is run goes with Borůvka in step: no threads, no other schedule than the seeded, no cores, nothing is told of the
+-- how a network is run goes with every protocol: no threads, no other schedule than the seeded, no cores, nothing is told of the
 -- run; an exploration may tell how far it has come, and only an exploration has a limit
-abbrev pub runs_in_step : Used → Bool
-runs_in_step command =
+abbrev pub runs_so : Used → Bool
+runs_so command =
     is_number 0 0 (value_in (codes "workers") command)
     && is_among (codes "seeded" ∷ []) (value_in (codes "schedule") command)
     && not (is_said (codes "true") (value_in (codes "core") command))
@@ -416,8 +365,8 @@ runs_in_step command =
     && not (is_said (codes "true") (value_in (codes "tally") command))
 
 -- what is swept does: one network, without its name, and the figures of its runs alone, by no parts, as text; only a sweep has a sheet
-abbrev pub sweeps_in_step : Used → Bool
-sweeps_in_step command =
+abbrev pub sweeps_so : Used → Bool
+sweeps_so command =
     is_among (codes "runs" ∷ []) (value_in (codes "sheet") command)
     && is_none (value_in (codes "by") command)
     && not (is_said (codes "true") (value_in (codes "names") command))
@@ -425,17 +374,17 @@ sweeps_in_step command =
     && (is_none (value_in (codes "sheet") command) || not (is_said (codes "true") (value_in (codes "json") command)))
 
 -- what is shown does: one run
-abbrev pub shows_in_step : Used → Bool
-shows_in_step command = is_none (value_in (codes "pair") command)
+abbrev pub shows_so : Used → Bool
+shows_so command = is_none (value_in (codes "pair") command)
 
 -- all that is asked for does
-abbrev pub fits_boruvka : Used → Bool
-fits_boruvka command = runs_in_step command && sweeps_in_step command && shows_in_step command
+abbrev pub fits_every : Used → Bool
+fits_every command = runs_so command && sweeps_so command && shows_so command
 
 -- GHS goes with everything
 abbrev pub fits_by : Protocol → Used → Bool
 fits_by Ghs command = true
-fits_by Boruvka command = fits_boruvka command
+fits_by _ command = fits_every command
 
 abbrev pub fits_protocol : Used → Bool
 fits_protocol command = fits_by (protocol_in command) command

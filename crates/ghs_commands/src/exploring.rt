@@ -3,11 +3,9 @@ ghost use Rattle.clap.specs.Words.{subcommand_rows_of};
 ghost use Rattle.ghs_commands.specs.Job.{AreExploreLimits, AreExploreOptions, IsFinding};
 
 use crate::job::{number_of, value_of, wake_of};
-use crate::protocols::protocol_of;
 use crate::values::is_text;
 use clap::ArgMatches;
 use peer_network::wake_set::WakeSet;
-use peer_trace::protocol::Protocol;
 
 /// How many states the runs may lead to at most.
 pub const MOST_STATES: u32 = 10_000_000;
@@ -24,8 +22,6 @@ pub enum Finding {
 /// Which exploration of all runs of a network is made.
 #[derive(Clone, Copy, Debug, PartialEq, Eq)]
 pub struct ExploreOptions {
-    /// Which protocol the nodes follow.
-    pub protocol: Protocol,
     /// Which nodes wake by themselves.
     pub wake: WakeSet,
     /// How many states the runs may lead to, 1 to 10^7.
@@ -44,7 +40,6 @@ pub(crate) fn exploration_of<'a>(matches: &ArgMatches<'a>) -> ExploreOptions
     ensures limits { AreExploreLimits result }
 {
     ExploreOptions {
-        protocol: protocol_of(matches),
         wake: wake_of(matches),
         limit: number_of(matches, "limit", 1, MOST_STATES as u64) as u32,
         finding: finding_of(matches),

@@ -1,7 +1,7 @@
 //! Command lines.
 ghost use Rattle.ghs_commands.specs.declared.job.JobFault.TheVariants.{Memory};
 ghost use Rattle.ghs_commands.specs.Grammar.{program};
-ghost use Rattle.ghs_commands.specs.Job.{AreNetworks, AreOptions, IsAsked, kind_in, links_in, weights_in, AreStepsOptions, IsChoice, AreSweepLimits, AreSweepOptions, AreWithinLimits, by_in, command_in, first_seed_in, has_choices, has_course, has_events, has_figures, has_network, has_numbers, has_prints, has_seeds, has_sizes, has_sources, has_values, kinds_of, name_in, node_in, number_at, option_kinds, pair_in, second_seed_in, seeds_at, value_in, with_name, IsForm, IsOfSeed, IsScheduleKind, IsRefused, IsSaid, IsSaidOf, IsSheet, IsShow, IsTask, IsWake, IsWithinLimits, AreStoredViewOptions, AreViewLimits, AreViewOptions};
+ghost use Rattle.ghs_commands.specs.Job.{AreNetworks, AreOptions, IsAsked, kind_in, links_in, weights_in, AreStepsOptions, IsChoice, AreSweepLimits, AreSweepOptions, AreWithinLimits, by_in, command_in, first_seed_in, has_choices, has_course, has_events, has_figures, has_network, has_numbers, has_prints, has_seeds, has_sizes, has_sources, has_values, kinds_of, name_in, node_in, number_at, option_kinds, pair_in, protocol_in, second_seed_in, seeds_at, value_in, with_name, IsForm, IsOfSeed, IsScheduleKind, IsRefused, IsSaid, IsSaidOf, IsSheet, IsShow, IsTask, IsWake, IsWithinLimits, AreStoredViewOptions, AreViewLimits, AreViewOptions};
 ghost use Rattle.ghs_commands.specs.Values.{AreSeeds, are_apart, are_weights, is_among, is_kind, is_number, is_range};
 ghost use Rattle.ghs_commands.specs.Networks.{are_read_once, values_in};
 ghost use Rattle.ghs_commands.specs.Parts.{go_together, is_part};
@@ -10,10 +10,6 @@ ghost use Rattle.clap.specs.Words.{kind_of, subcommand_rows_of};
 ghost use Rattle.std.specs.Option.{option_map};
 ghost use Rattle.std.specs.Prelude.{◌≡◌, ◌≤◌, ◌↔◌, ◌∷◌, [], IfErr, IfOk, IfSome, OnErr, OnOk, Some, codes, false, map, string_bytes, true};
 
-use crate::boruvka::{
-    BoruvkaOptions, BoruvkaSweepOptions, BoruvkaViewOptions, boruvka_of, boruvka_sweep_of,
-    boruvka_view_of,
-};
 use crate::exploring::{ExploreOptions, MOST_STATES, exploration_of};
 use crate::grammar::program;
 use crate::networks::{are_read_once, input_twice, named_of, values_of};
@@ -154,7 +150,7 @@ pub struct StoredViewOptions {
     pub to: u64,
 }
 
-/// What is to be done.
+/// What is to be done, and which protocol the nodes follow.
 #[derive(Clone, Copy, Debug, PartialEq, Eq)]
 pub enum Task {
     /// Print the minimum spanning forest, and each component's core where that is asked for.
@@ -162,35 +158,42 @@ pub enum Task {
         core: bool,
     },
     /// Run a network.
-    Run(RunOptions),
-    /// Run a network by Borůvka in step.
-    Boruvka(BoruvkaOptions),
-    /// Play a stored run of a protocol again.
+    Run {
+        protocol: Protocol,
+        options: RunOptions,
+    },
+    /// Play a stored run again.
     Replay {
         protocol: Protocol,
         wake: WakeSet,
     },
     /// Print what each event of a stored run does.
-    Steps(StepsOptions),
-    /// Print what each event of a stored run by Borůvka in step does.
-    BoruvkaSteps(StepsOptions),
+    Steps {
+        protocol: Protocol,
+        options: StepsOptions,
+    },
     /// Print the figures of many seeds' runs.
-    Sweep(SweepOptions),
-    /// Print the figures of many seeds' runs by Borůvka in step.
-    BoruvkaSweep(BoruvkaSweepOptions),
+    Sweep {
+        protocol: Protocol,
+        options: SweepOptions,
+    },
     /// Print the page of the run that a seed picks.
-    View(ViewOptions),
-    /// Print the page of the run that a seed picks by Borůvka in step.
-    BoruvkaView(BoruvkaViewOptions),
-    /// Print the page of a stored run of a protocol.
+    View {
+        protocol: Protocol,
+        options: ViewOptions,
+    },
+    /// Print the page of a stored run.
     StoredView {
         protocol: Protocol,
         options: StoredViewOptions,
     },
+    /// Print with which counts of messages all runs of a network end, or the events of one of them.
+    Explore {
+        protocol: Protocol,
+        options: ExploreOptions,
+    },
     /// Make a network, and print it.
     Make(Asked),
-    /// Print with which counts of messages all runs of a network end, or the events of one of them.
-    Explore(ExploreOptions),
 }
 
 /// What a command line asks for: the file of the graph (standard input where there is none, or it is `-`), the file of a
@@ -228,7 +231,7 @@ impl From<AllocError> for JobFault {
 ///
 /// ```text
 /// let job = read_job(alloc, &words)?;                       // the words run --seed 7 five.gr
-/// // job.graph is five.gr, and job.task is Task::Run(options) with options.seed 7 and options.workers 0
+/// // job.graph is five.gr; job.task is Task::Run { protocol, options }, with protocol Ghs, options.seed 7, options.workers 0
 /// // of the word --help it is Err(JobFault::Help(text))
 /// ```
 pub fn read_job(alloc: Global, words: &[String]) -> Result<Job, JobFault>
@@ -607,39 +610,30 @@ fn task_of<'a>(matches: &ArgMatches<'a>) -> Task
     ensures task { IsTask (subcommand_rows_of matches.now) result }
     ensures limits { IsWithinLimits result }
 {
+    let protocol = protocol_of(matches);
     if matches.subcommand_name() == Some("run") {
-        run_by(matches)
+        let options = options_of(matches);
+        Task::Run { protocol, options }
     } else if matches.subcommand_name() == Some("replay") {
-        Task::Replay {
-            protocol: protocol_of(matches),
-            wake: wake_of(matches),
-        }
+        let wake = wake_of(matches);
+        Task::Replay { protocol, wake }
     } else if matches.subcommand_name() == Some("steps") {
-        steps_by(matches)
+        let options = steps_of(matches);
+        Task::Steps { protocol, options }
     } else if matches.subcommand_name() == Some("sweep") {
-        sweep_by(matches)
+        let options = sweep_of(matches);
+        Task::Sweep { protocol, options }
     } else if matches.subcommand_name() == Some("view") {
-        shown_by(matches)
+        shown_by(matches, protocol)
     } else if matches.subcommand_name() == Some("make") {
         Task::Make(asked_of(matches))
     } else if matches.subcommand_name() == Some("explore") {
-        Task::Explore(exploration_of(matches))
+        let options = exploration_of(matches);
+        Task::Explore { protocol, options }
     } else {
         Task::Tree {
             core: is_text(value_of(matches, "core"), "true"),
         }
-    }
-}
-
-/// By which protocol a network is to be run, and how.
-fn run_by<'a>(matches: &ArgMatches<'a>) -> Task
-    requires { name_in (subcommand_rows_of matches.now) ≡ Some (codes "run") }
-    ensures task { IsTask (subcommand_rows_of matches.now) result }
-    ensures limits { IsWithinLimits result }
-{
-    match protocol_of(matches) {
-        Protocol::Ghs => Task::Run(options_of(matches)),
-        Protocol::Boruvka => Task::Boruvka(boruvka_of(matches)),
     }
 }
 
@@ -658,18 +652,6 @@ fn options_of<'a>(matches: &ArgMatches<'a>) -> RunOptions
         core: is_text(value_of(matches, "core"), "true"),
         progress: is_text(value_of(matches, "progress"), "true"),
         tally: is_text(value_of(matches, "tally"), "true"),
-    }
-}
-
-/// Of which protocol the run is whose steps are to be shown, and which.
-fn steps_by<'a>(matches: &ArgMatches<'a>) -> Task
-    requires { name_in (subcommand_rows_of matches.now) ≡ Some (codes "steps") }
-    ensures task { IsTask (subcommand_rows_of matches.now) result }
-    ensures limits { IsWithinLimits result }
-{
-    match protocol_of(matches) {
-        Protocol::Ghs => Task::Steps(steps_of(matches)),
-        Protocol::Boruvka => Task::BoruvkaSteps(steps_of(matches)),
     }
 }
 
@@ -719,18 +701,6 @@ fn form_of<'a>(matches: &ArgMatches<'a>) -> Form
     }
 }
 
-/// By which protocol the runs go that are to be swept, and which.
-fn sweep_by<'a>(matches: &ArgMatches<'a>) -> Task
-    requires { name_in (subcommand_rows_of matches.now) ≡ Some (codes "sweep") }
-    ensures task { IsTask (subcommand_rows_of matches.now) result }
-    ensures limits { IsWithinLimits result }
-{
-    match protocol_of(matches) {
-        Protocol::Ghs => Task::Sweep(sweep_of(matches)),
-        Protocol::Boruvka => Task::BoruvkaSweep(boruvka_sweep_of(matches)),
-    }
-}
-
 /// Which runs are to be swept.
 fn sweep_of<'a>(matches: &ArgMatches<'a>) -> SweepOptions
     ensures options { AreSweepOptions (subcommand_rows_of matches.now) result }
@@ -750,31 +720,21 @@ fn sweep_of<'a>(matches: &ArgMatches<'a>) -> SweepOptions
 }
 
 /// Which page is to be made: that of a stored run where one is named, and else that of a seed's.
-fn shown_by<'a>(matches: &ArgMatches<'a>) -> Task
-    requires { name_in (subcommand_rows_of matches.now) ≡ Some (codes "view") }
+fn shown_by<'a>(matches: &ArgMatches<'a>, protocol: Protocol) -> Task
+    requires view { name_in (subcommand_rows_of matches.now) ≡ Some (codes "view") }
+    requires by { protocol ≡ protocol_in (subcommand_rows_of matches.now) }
     ensures task { IsTask (subcommand_rows_of matches.now) result }
     ensures limits { IsWithinLimits result }
 {
     match value_of(matches, "TRACE") {
         Some(_) => {
-            let protocol = protocol_of(matches);
             let options = stored_view_of(matches);
             Task::StoredView { protocol, options }
         }
-        None => seed_shown_by(matches),
-    }
-}
-
-/// By which protocol the run goes of which a page is to be made, and whose it is.
-fn seed_shown_by<'a>(matches: &ArgMatches<'a>) -> Task
-    requires view { name_in (subcommand_rows_of matches.now) ≡ Some (codes "view") }
-    requires seed { IsOfSeed (subcommand_rows_of matches.now) }
-    ensures task { IsTask (subcommand_rows_of matches.now) result }
-    ensures limits { IsWithinLimits result }
-{
-    match protocol_of(matches) {
-        Protocol::Ghs => Task::View(view_of(matches)),
-        Protocol::Boruvka => Task::BoruvkaView(boruvka_view_of(matches)),
+        None => {
+            let options = view_of(matches);
+            Task::View { protocol, options }
+        }
     }
 }
 

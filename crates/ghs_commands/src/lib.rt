@@ -8,8 +8,8 @@
 //! Limits have names: `MOST_NODES`, `MOST_WORKERS`, `MOST_SEEDS`, `MOST_STATES`. Next: `ghs_cli`, which does the job.
 #![tactic(auto)]
 
-pub mod boruvka;
 pub mod exploring;
+mod fitting;
 mod grammar;
 pub mod job;
 mod networks;

@@ -5,7 +5,7 @@ ghost use Rattle.ghs_commands.specs.Protocols.{is_protocol};
 ghost use Rattle.std.specs.Option.{option_map};
 ghost use Rattle.std.specs.Prelude.{◌≡◌, IfErr, OnErr, OnOk, codes, false, true};
 
-use crate::boruvka::stranger_in;
+use crate::fitting::stranger_in;
 use crate::job::{JobFault, value_of};
 use crate::values::unknown_choice;
 use clap::ArgMatches;
@@ -55,11 +55,12 @@ fn check_fit<'a>(alloc: Global, matches: &ArgMatches<'a>) -> Result<(), JobFault
     ensures err { OnErr result (fits_protocol (subcommand_rows_of matches.now) ≡ false) }
     ensures fault { IfErr result IsRefused }
 {
-    if protocol_of(matches) == Protocol::Ghs {
+    let protocol = protocol_of(matches);
+    if protocol == Protocol::Ghs {
         return Ok(());
     }
     match stranger_in(matches) {
-        Some(argument) => Err(no_such_run(alloc, argument)),
+        Some(argument) => Err(no_such_run(alloc, protocol, argument)),
         None => Ok(()),
     }
 }
@@ -74,12 +75,13 @@ fn is_protocol(value: Option<&str>) -> bool
     }
 }
 
-/// What is said of an argument that doesn't go with Borůvka in step, in `clap`'s words.
-fn no_such_run(alloc: Global, argument: &str) -> JobFault
+/// What is said of an argument that doesn't go with a protocol, in `clap`'s words.
+fn no_such_run(alloc: Global, protocol: Protocol, argument: &str) -> JobFault
     ensures { IsRefused result }
 {
+    let name = protocol.name();
     match format!(in alloc;
-        "error: the argument '--protocol boruvka' cannot be used with '{argument}'\n\nFor more information, try '--help'.\n"
+        "error: the argument '--protocol {name}' cannot be used with '{argument}'\n\nFor more information, try '--help'.\n"
     ) {
         Ok(text) => JobFault::Refused(text),
         Err(_) => JobFault::Memory,

@@ -9,7 +9,8 @@ use Rattle.std.proofs.lemmas.Result.{IfOk-weaker}
 use Rattle.ghs_graph.specs.Graph.{Shape}
 use Rattle.ghs_graph.proofs.lemmas.Members.{in_filter, filter_has}
 use Rattle.ghs_node.specs.NodeState.{NodeState}
-use Rattle.ghs_channels.specs.Channels.{ChannelsState}
+use Rattle.ghs_node.specs.declared.message.Message.{Message}
+use Rattle.peer_channels.specs.Channels.{ChannelsState}
 use Rattle.peer_network.specs.declared.event.Event.{Event}
 use Rattle.peer_network.specs.Network.{Network, network_of}
 use Rattle.ghs_protocol.specs.Net.{Net}
@@ -25,7 +26,7 @@ use Rattle.ghs_core.specs.Census.{IsRow, IsCensus, AreLarge, CountsClass, AreCou
 use Rattle.ghs_core.proofs.Enough.{no_more}
 use Rattle.ghs_core.proofs.Interleaved.{large_fragment}
 
-module _ {g : Shape} {es : List Event} {nodes : List NodeState} {channels : ChannelsState} {counts : Counts} {halts : Halts}
+module _ {g : Shape} {es : List Event} {nodes : List NodeState} {channels : ChannelsState Message} {counts : Counts} {halts : Halts}
     (kept : IsKept g es nodes channels counts halts) where
   abbrev net : Network
   net = network_of g

@@ -20,7 +20,8 @@ use Rattle.ghs_graph.proofs.lemmas.Ports.{OnLink, on_link}
 use Rattle.ghs_graph.proofs.lemmas.Members.{filter_has, in_filter}
 use Rattle.ghs_node.specs.declared.mark.Mark.TheVariants.{Branch}
 use Rattle.ghs_node.specs.NodeState.{NodeState, mark_at, degree}
-use Rattle.ghs_channels.specs.Channels.{ChannelsState}
+use Rattle.ghs_node.specs.declared.message.Message.{Message}
+use Rattle.peer_channels.specs.Channels.{ChannelsState}
 use Rattle.peer_network.specs.declared.event.Event.{Event}
 use Rattle.peer_network.specs.Network.{Network, network_of, At, port_at}
 use Rattle.ghs_protocol.specs.Net.{Net}
@@ -42,7 +43,7 @@ or_true : (b : Bool) → (b || true) ≡ true
 or_true true = refl
 or_true false = refl
 
-module _ {g : Shape} {es : List Event} {nodes : List NodeState} {channels : ChannelsState} {counts : Counts} {halts : Halts}
+module _ {g : Shape} {es : List Event} {nodes : List NodeState} {channels : ChannelsState Message} {counts : Counts} {halts : Halts}
     (kept : IsKept g es nodes channels counts halts) where
   abbrev net : Network
   net = network_of g

@@ -18,5 +18,4 @@ pub mod Interleaved
 pub mod Enough
 pub mod CensusRows
 pub mod lemmas
-pub mod Starts
 mod OneEnd

@@ -8,8 +8,9 @@ use Rattle.ghs_node.specs.NodeState.{NodeState}
 use Rattle.ghs_node.specs.Reaction.{reaction, after, IsReaction}
 use Rattle.ghs_node.specs.Rows.{Row}
 use Rattle.ghs_node.proofs.lemmas.{row_ported}
-use Rattle.ghs_channels.specs.Channels.{ChannelsState, IsFor, first_queue, GoOut, HasRoomFor, KeepsLists, room_at, total_of}
-use Rattle.ghs_channels.proofs.lemmas.Ports.{same_first, same_for}
+use Rattle.ghs_node.specs.declared.message.Message.{Message}
+use Rattle.peer_channels.specs.Channels.{ChannelsState, IsFor, first_queue, GoOut, HasRoomFor, KeepsLists, room_at, total_of}
+use Rattle.peer_channels.proofs.lemmas.Ports.{same_first, same_for}
 use Rattle.peer_network.specs.declared.event.Event.{Event}
 use Rattle.peer_network.specs.Network.{network_of, At}
 use Rattle.peer_network.proofs.lemmas.Wired.{IsWired}
@@ -38,7 +39,7 @@ use Rattle.ghs_core.proofs.Totals.{Disposed, disposed, disposed_room, disposed_r
 use Rattle.ghs_core.proofs.Halting.{are_like, with_node_is}
 
 -- the events of a run so far, and the reaction of one more
-pub record Plays (g : Shape) (es : List Event) (nodes : List NodeState) (channels : ChannelsState) (counts : Counts) (halts : Halts)
+pub record Plays (g : Shape) (es : List Event) (nodes : List NodeState) (channels : ChannelsState Message) (counts : Counts) (halts : Halts)
     (e : Event) (d : Delta) : Type 0 where
   pub kept : IsKept g es nodes channels counts halts
   pub lawful : is_lawful (network_of g) (net_after g es) e ≡ true
@@ -46,14 +47,15 @@ pub record Plays (g : Shape) (es : List Event) (nodes : List NodeState) (channel
 
 -- the same, of what contracts see
 pub plays_of :
-    {g : Shape} {es : List Event} {nodes : List NodeState} {channels : ChannelsState} {counts : Counts} {halts : Halts} {spare : ℕ} {s : NetState}
+    {g : Shape} {es : List Event} {nodes : List NodeState} {channels : ChannelsState Message} {counts : Counts} {halts : Halts} {spare : ℕ} {s :
+    NetState}
     {e : Event} {d : Delta} →
     IsKept g es nodes channels counts halts → record { graph = g; trace = es; channels = channels; spare = spare } ≡ s →
     IsLawful s e → IsAnswer s e d →
     Plays g es nodes channels counts halts e d
 plays_of kept view lawful answer = record { kept = kept; lawful = rw (← view) at lawful; answer = rw (← view) at answer }
 
-module _ {g : Shape} {es : List Event} {nodes : List NodeState} {channels : ChannelsState} {counts : Counts} {halts : Halts} {e : Event}
+module _ {g : Shape} {es : List Event} {nodes : List NodeState} {channels : ChannelsState Message} {counts : Counts} {halts : Halts} {e : Event}
     {d : Delta} (plays : Plays g es nodes channels counts halts e d) where
   wired : IsWired (network_of g)
   wired = graph_wired g plays.kept.graph
@@ -102,7 +104,7 @@ module _ {g : Shape} {es : List Event} {nodes : List NodeState} {channels : Chan
   few = let a = row_few row in let b = is_node.node.few in omega (arith, a, b)
 
   -- once the message that the event takes has met its fate
-  module _ (l : ChannelsState) (c : Counts) (s : Disposes e d.fate channels l counts c) where
+  module _ (l : ChannelsState Message) (c : Counts) (s : Disposes e d.fate channels l counts c) where
     so_far : Disposed channels l counts c
     so_far = disposed g (net_after g es) nodes channels counts plays.kept.queues plays.kept.shows l c stages.stage s
 
@@ -126,7 +128,7 @@ module _ {g : Shape} {es : List Event} {nodes : List NodeState} {channels : Chan
     sent_below lt k below = sent_fits (length es) channels l counts c (length d.sends) k lt few plays.kept.fit so_far below
 
     -- and its node has reacted
-    module _ (l' : ChannelsState) (sent : List ℕ) (a : Arrives g (event_node e) d.sends l l') (told : CountsSends d.sends c.sent sent) where
+    module _ (l' : ChannelsState Message) (sent : List ℕ) (a : Arrives g (event_node e) d.sends l l') (told : CountsSends d.sends c.sent sent) where
       abbrev next : Net
       next = reacted (network_of g) (event_node e) d stages.before
 
@@ -209,7 +211,7 @@ module _ {g : Shape} {es : List Event} {nodes : List NodeState} {channels : Chan
       ap (λ (x : Net). Some x) (sym (net_after_more g es e (net_after g es) _ (run plays.kept) (stage_happens stages.stage)))
 
 -- a reserve
-pub reserved : (g : Shape) (es : List Event) (nodes : List NodeState) (channels l : ChannelsState) (counts : Counts) (halts : Halts) →
+pub reserved : (g : Shape) (es : List Event) (nodes : List NodeState) (channels l : ChannelsState Message) (counts : Counts) (halts : Halts) →
     IsKept g es nodes channels counts halts →
     KeepsLists channels l → IsKept g es nodes l counts halts
 reserved g es nodes channels l counts halts kept same = record {

@@ -9,7 +9,7 @@ use Rattle.ghs_node.specs.declared.delta.Fate.TheVariants.{Requeued}
 use Rattle.ghs_node.specs.declared.message.Message.{Message}
 use Rattle.ghs_node.specs.NodeState.{NodeState, degree}
 use Rattle.ghs_node.specs.Reaction.{after, reaction, requeues}
-use Rattle.ghs_channels.specs.Channels.{ChannelsState, queue_at}
+use Rattle.peer_channels.specs.Channels.{ChannelsState, queue_at}
 use Rattle.peer_network.specs.declared.event.Event.{Event}
 use Rattle.peer_network.specs.declared.event.Event.TheVariants.{Take}
 use Rattle.ghs_protocol.specs.Living.{Waits}
@@ -26,7 +26,7 @@ use Rattle.ghs_core.proofs.Playing.{Plays, found, inside, played_still}
 use Rattle.ghs_core.proofs.Reading.{node_found, port_below}
 use Rattle.ghs_core.proofs.Sending.{none_sent}
 
-module _ {g : Shape} {es : List Event} {nodes : List NodeState} {channels : ChannelsState} {counts : Counts} {halts : Halts} {v p : ℕ}
+module _ {g : Shape} {es : List Event} {nodes : List NodeState} {channels : ChannelsState Message} {counts : Counts} {halts : Halts} {v p : ℕ}
     (plays : Plays g es nodes channels counts halts (Take v p) (requeues ((net_after g es).node v).head)) where
   abbrev answer : Delta
   answer = requeues ((net_after g es).node v).head
@@ -41,7 +41,8 @@ module _ {g : Shape} {es : List Event} {nodes : List NodeState} {channels : Chan
   unchanged : node ≡ after node answer
   unchanged = subst (λ (n : NodeState). n ≡ after n answer) (sym (found plays node there)) refl
 
-  pub kept_back : (l : ChannelsState) (c : Counts) → Disposes (Take v p) Requeued channels l counts c → IsKept g (es ++ Take v p ∷ []) nodes l c halts
+  pub kept_back : (l : ChannelsState Message) (c : Counts) → Disposes (Take v p) Requeued channels l counts c →
+      IsKept g (es ++ Take v p ∷ []) nodes l c halts
   kept_back l c s =
       let nothing = none_sent g v [] l c.sent (λ i has. omega arith) in
       subst (λ (ns : List NodeState). IsKept g (es ++ Take v p ∷ []) ns l c halts) (set-get_or nodes (v - 1) no_node)
@@ -49,7 +50,8 @@ module _ {g : Shape} {es : List Event} {nodes : List NodeState} {channels : Chan
 
 -- the events of a run so far, and a message that is only put back
 pub plays_back :
-    {g : Shape} {es : List Event} {nodes : List NodeState} {channels : ChannelsState} {counts : Counts} {halts : Halts} {spare : ℕ} {s : NetState}
+    {g : Shape} {es : List Event} {nodes : List NodeState} {channels : ChannelsState Message} {counts : Counts} {halts : Halts} {spare : ℕ} {s :
+    NetState}
     {v p : ℕ} →
     IsKept g es nodes channels counts halts → record { graph = g; trace = es; channels = channels; spare = spare } ≡ s → IsLawful s (Take v p) →
     IsPutBack s v p →
@@ -67,7 +69,8 @@ back_where_waits s v p m lt first h = of_queue ((net_of s).queue v p) first
 
 -- the same, of what contracts see
 pub back_here :
-    {g : Shape} {es : List Event} {nodes : List NodeState} {channels : ChannelsState} {counts : Counts} {halts : Halts} {spare : ℕ} {s : NetState} →
+    {g : Shape} {es : List Event} {nodes : List NodeState} {channels : ChannelsState Message} {counts : Counts} {halts : Halts} {spare : ℕ} {s :
+    NetState} →
     (kept : IsKept g es nodes channels counts halts) → record { graph = g; trace = es; channels = channels; spare = spare } ≡ s →
     (v p : ℕ) (x : NodeState) → At (network_of g) v p → x ≡ get_or nodes (v - 1) x → (m : Message) → Some m ≡ slice_get (queue_at channels v p) 0 →
     Waits x p m → IsPutBack s v p

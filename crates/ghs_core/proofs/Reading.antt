@@ -4,7 +4,8 @@ use Rattle.std.proofs.lemmas.Bool.{and_parts}
 use Rattle.std.proofs.lemmas.List.{get_or_default}
 use Rattle.ghs_graph.specs.Graph.{Shape}
 use Rattle.ghs_node.specs.NodeState.{NodeState, degree}
-use Rattle.ghs_channels.specs.Channels.{ChannelsState, IsFor, AllEmpty, total_of}
+use Rattle.ghs_node.specs.declared.message.Message.{Message}
+use Rattle.peer_channels.specs.Channels.{ChannelsState, IsFor, AllEmpty, total_of}
 use Rattle.peer_network.specs.declared.event.Event.{Event}
 use Rattle.peer_network.specs.declared.event.Event.TheVariants.{Take}
 use Rattle.peer_network.specs.Network.{Network, network_of, At}
@@ -24,7 +25,7 @@ use Rattle.ghs_core.specs.declared.halts.Halts.{Halts}
 use Rattle.ghs_core.specs.Halts.{AreHalts, none_halted}
 use Rattle.ghs_core.specs.Kept.{IsKept, AreAsleep, no_node}
 
-module _ {g : Shape} {es : List Event} {nodes : List NodeState} {channels : ChannelsState} {counts : Counts} {halts : Halts}
+module _ {g : Shape} {es : List Event} {nodes : List NodeState} {channels : ChannelsState Message} {counts : Counts} {halts : Halts}
     (kept : IsKept g es nodes channels counts halts) where
   pub run : IsAfter (network_of g) es (net_after g es)
   run = after_is_net g es kept.run
@@ -71,7 +72,7 @@ pub lawful_port : (g : Network) (w : Net) (v p : ℕ) → is_lawful g w (Take v 
 lawful_port g w v p l = let b = and_parts _ _ l in at_of g v p b.0
 
 -- the fields of an opening net
-pub opened : (g : Shape) (nodes : List NodeState) (channels : ChannelsState) (counts : Counts) (halts : Halts) →
+pub opened : (g : Shape) (nodes : List NodeState) (channels : ChannelsState Message) (counts : Counts) (halts : Halts) →
     AreAsleep g nodes →
     IsFor g channels →
     AllEmpty channels →

@@ -1,46 +1,33 @@
 -- Sends, message by message.
 use Rattle.std.proofs.Common.{◌≡◌, ◌≢◌, ℕ, Bool, true, false, ◌+◌, ◌-◌, ◌<◌, ◌≤◌, ◌==◌, List, [], ◌∷◌, ◌++◌, length, get_or, set, take, drop, refl, subst, sym, ◌∙◌, ap, cond, ⊎_elim, eq-eqb, ne_eqb, arith, append-nil, append_assoc, length-append, get_or-set_same, get_or-set_other, length-set}
-use Rattle.std.specs.List.{count_by}
 use Rattle.std.proofs.lemmas.Bool.{cases_eq}
 use Rattle.std.proofs.lemmas.List.{take_more}
-use Rattle.std.proofs.lemmas.List.Sums.{sum_by-drop_more}
 use Rattle.ghs_graph.specs.Graph.{Shape}
 use Rattle.ghs_node.specs.declared.message.Message.{Message}
 use Rattle.ghs_node.specs.Kind.{kind_of, place_of}
 use Rattle.ghs_node.specs.Words.{Outgoing}
-use Rattle.ghs_channels.specs.Queue.{QueueState, pushed}
-use Rattle.ghs_channels.specs.Channels.{ChannelsState, HasQueue, IsPort, IsFor, SamePorts, GoOut, HasRoomFor, Changes, state_at, queue_at, room_at, port_of, far_end, destination_of}
-use Rattle.ghs_channels.proofs.lemmas.Ports.{same_then, same_alike, same_for, same_destination, far_queue}
+use Rattle.peer_channels.specs.Queue.{QueueState, pushed}
+use Rattle.peer_channels.specs.Channels.{ChannelsState, HasQueue, IsPort, IsFor, GoOut, HasRoomFor, Changes, state_at, queue_at, room_at, port_of, destination_of}
+use Rattle.peer_channels.proofs.lemmas.Ports.{same_then, same_alike, same_for}
+use Rattle.peer_channels.proofs.lemmas.Rooms.{at_port, port_at, leads_to, room_after}
 use Rattle.peer_network.specs.Network.{Network, At, network_of, far}
 use Rattle.peer_network.proofs.lemmas.Wired.{IsWired}
 use Rattle.peer_network.proofs.lemmas.Graphs.{graph_wired}
 use Rattle.peer_network.proofs.lemmas.Updates.{one_place}
-use Rattle.peer_network.proofs.lemmas.Wires.{far_apart}
 use Rattle.ghs_protocol.specs.Ledger.{of_kind}
 use Rattle.ghs_core.specs.Dispatch.{Arrives, CountsSends, arriving, messages_of}
 use Rattle.ghs_core.proofs.Arriving.{arriving_push, one_arrives, one_misses, kinds_push}
 
 -- what holds once the first i messages are out
-pub record Sent (g : Shape) (v : ℕ) (ss : Outgoing) (i : ℕ) (old l : ChannelsState) (os s : List ℕ) : Type 0 where
+pub record Sent (g : Shape) (v : ℕ) (ss : Outgoing) (i : ℕ) (old l : ChannelsState Message) (os s : List ℕ) : Type 0 where
   pub arrives : Arrives g v (take i ss) old l
   pub room : HasRoomFor v (drop i ss) l
   pub counts : CountsSends (take i ss) os s
   pub width : length s ≡ length os
 
--- a port of a graph is one of its network
-at_port : {g : Shape} {v i : ℕ} → IsPort g v i → At (network_of g) v i
-at_port p = record { some = p.some; node = p.node; port = p.port }
-
-pub port_at : {g : Shape} {v i : ℕ} → At (network_of g) v i → IsPort g v i
-port_at p = record { some = p.some; node = p.node; port = p.port }
-
--- where a message goes
-leads_to : (g : Shape) (old l : ChannelsState) → IsFor g old → SamePorts old l → (v i : ℕ) → IsPort g v i → destination_of l v i ≡ far_end g v i
-leads_to g old l for same v i port = same_destination old l same v i ∙ for.leads v i port
-
 module _ (g : Shape) (v : ℕ) where
   -- one message more
-  arrives_more : (old l l' : ChannelsState) (ss : Outgoing) (i : ℕ) (m : Message) → IsFor g old → IsPort g v i → Arrives g v ss old l →
+  arrives_more : (old l l' : ChannelsState Message) (ss : Outgoing) (i : ℕ) (m : Message) → IsFor g old → IsPort g v i → Arrives g v ss old l →
       Changes l l' (port_of g v i).far (port_of g v i).far_port (pushed (state_at l (port_of g v i).far (port_of g v i).far_port) m) →
       Arrives g v (ss ++ (i, m) ∷ []) old l'
   arrives_more old l l' ss i m for lt a c = record {
@@ -75,7 +62,7 @@ module _ (g : Shape) (v : ℕ) where
           same e =
               let there : At (network_of g) to_node to_port = wired.there v i (at_port lt) in
               let one : arriving (network_of g) v ((i, m) ∷ []) to_node to_port ≡ m ∷ [] = one_arrives (network_of g) v wired (i, m) (at_port lt) in
-              let now : queue_at l' to_node to_port ≡ queue_at l to_node to_port ++ m ∷ [] = ap (λ (q : QueueState). q.list) c.here in
+              let now : queue_at l' to_node to_port ≡ queue_at l to_node to_port ++ m ∷ [] = ap (λ (q : QueueState Message). q.list) c.here in
               rw (e.0, e.1) (now ∙
               rw (a.queue to_node to_port there, one)
               (append_assoc (queue_at old to_node to_port) (arriving (network_of g) v ss to_node to_port) (m ∷ [])))
@@ -86,7 +73,7 @@ module _ (g : Shape) (v : ℕ) where
           other ne =
               let had : HasQueue l u r = (a.ports.queues u r).0 ((for.queues u r).1 (port_at at)) in
               let none : arriving (network_of g) v ((i, m) ∷ []) u r ≡ [] = one_misses (network_of g) v wired (i, m) u r (at_port lt) at ne in
-              ap (λ (q : QueueState). q.list) (c.elsewhere u r had ne) ∙ a.queue u r at ∙ rw (none, append-nil) refl
+              ap (λ (q : QueueState Message). q.list) (c.elsewhere u r had ne) ∙ a.queue u r at ∙ rw (none, append-nil) refl
 
       rooms : (u r : ℕ) → At (network_of g) u r → room_at old u r ≤ room_at l' u r + length (arriving (network_of g) v (ss ++ (i, m) ∷ []) u r)
       rooms u r at =
@@ -99,66 +86,13 @@ module _ (g : Shape) (v : ℕ) where
           (λ (e : (u ≡ to_node) × (r ≡ to_port)).
           let one : length (arriving (network_of g) v ((i, m) ∷ []) u r) ≡ 1 =
           rw (e.0, e.1) (ap length (one_arrives (network_of g) v wired (i, m) (at_port lt))) in
-          let now : room_at l' u r ≡ room_at l u r - 1 = rw (e.0, e.1) (ap (λ (q : QueueState). q.room) c.here) in
+          let now : room_at l' u r ≡ room_at l u r - 1 = rw (e.0, e.1) (ap (λ (q : QueueState Message). q.room) c.here) in
           omega (arith, before, more, one, now))
           (λ ne.
           let had : HasQueue l u r = (a.ports.queues u r).0 ((for.queues u r).1 (port_at at)) in
-          let now : room_at l' u r ≡ room_at l u r = ap (λ (q : QueueState). q.room) (c.elsewhere u r had ne) in
+          let now : room_at l' u r ≡ room_at l u r = ap (λ (q : QueueState Message). q.room) (c.elsewhere u r had ne) in
           omega (arith, before, more, now))
           (one_place to_node to_port u r)
-
-  -- the room that the next message leaves
-  room_after : (l l' : ChannelsState) (ss : Outgoing) (i : ℕ) (d s : ℕ × Message) → IsFor g l → i < length ss → s ≡ get_or ss i d → IsPort g v s.0 →
-      HasRoomFor v (drop i ss) l →
-      Changes l l' (port_of g v s.0).far (port_of g v s.0).far_port (pushed (state_at l (port_of g v s.0).far (port_of g v s.0).far_port) s.1) →
-      HasRoomFor v (drop (i + 1) ss) l'
-  room_after l l' ss i d s for more is port room c p has =
-      let at : IsPort g v p = (for.queues v p).0 ((c.ports.queues v p).1 has) in
-      let led : destination_of l' v p ≡ far_end g v p = leads_to g l l' for c.ports v p at in
-      rw led (⊎_elim (here at) (elsewhere at) (cases_eq p s.0))
-    where
-      had : (p : ℕ) →
-          count_by (λ (x : ℕ × Message). x.0 == p) (drop i ss) ≡ cond (s.0 == p) 1 0 + count_by (λ (x : ℕ × Message). x.0 == p) (drop (i + 1) ss)
-      had p = sum_by-drop_more (λ (x : ℕ × Message). cond (x.0 == p) 1 0) ss i d more ∙ rw is refl
-
-      room_for : (p : ℕ) →
-          IsPort g v p →
-          count_by (λ (x : ℕ × Message). x.0 == p) (drop i ss) ≤ room_at l (port_of g v p).far (port_of g v p).far_port
-      room_for p at = rw (for.leads v p at) at (room p ((for.queues v p).1 at))
-
-      here : {p : ℕ} →
-          IsPort g v p →
-          p ≡ s.0 →
-          count_by (λ (x : ℕ × Message). x.0 == p) (drop (i + 1) ss) ≤ room_at l' (port_of g v p).far (port_of g v p).far_port
-      here {p} at e =
-          let mine : count_by (λ (x : ℕ × Message). x.0 == s.0) (drop i ss) ≡ 1 + count_by (λ (x : ℕ × Message). x.0 == s.0) (drop (i + 1) ss) =
-          had s.0 ∙ rw (eq-eqb s.0 s.0 refl) refl in
-          let left : room_at l' (port_of g v s.0).far (port_of g v s.0).far_port ≡ room_at l (port_of g v s.0).far (port_of g v s.0).far_port - 1 =
-          ap (λ (q : QueueState). q.room) c.here in
-          let r = room_for s.0 port in
-          rw e (omega (arith, mine, left, r))
-
-      elsewhere : {p : ℕ} →
-          IsPort g v p →
-          p ≢ s.0 →
-          count_by (λ (x : ℕ × Message). x.0 == p) (drop (i + 1) ss) ≤ room_at l' (port_of g v p).far (port_of g v p).far_port
-      elsewhere {p} at ne =
-          let ours : count_by (λ (x : ℕ × Message). x.0 == p) (drop i ss) ≡ count_by (λ (x : ℕ × Message). x.0 == p) (drop (i + 1) ss) =
-          had p ∙ rw (ne_eqb s.0 p (λ z. ne (sym z))) (omega arith) in
-          let apart = far_apart (network_of g) (graph_wired g for.graph) v p s.0 (at_port at) (λ z. ne (sym z)) in
-          let same : room_at l' (port_of g v p).far (port_of g v p).far_port ≡ room_at l (port_of g v p).far (port_of g v p).far_port =
-          ap (λ (q : QueueState). q.room) (c.elsewhere _ _ (far_queue g l for v p at.port) apart) in
-          let r = room_for p at in
-          omega (arith, ours, same, r)
-
--- the room for the next message
-pub room_for_next : (v : ℕ) (l : ChannelsState) (ss : Outgoing) (i : ℕ) (d s : ℕ × Message) → i < length ss → s ≡ get_or ss i d → HasQueue l v s.0 →
-    HasRoomFor v (drop i ss) l → 0 < room_at l (destination_of l v s.0).0 (destination_of l v s.0).1
-room_for_next v l ss i d s more is has room =
-    let one = sum_by-drop_more (λ (x : ℕ × Message). cond (x.0 == s.0) 1 0) ss i d more in
-    let first : ◌≡◌ {A = ℕ} (cond ((get_or ss i d).0 == s.0) 1 0) 1 = rw (sym is, eq-eqb s.0 s.0 refl) refl in
-    let r = room s.0 has in
-    omega (arith, one, first, r)
 
 -- one message more is counted
 counts_more : (ss : Outgoing) (x : ℕ × Message) (os s : List ℕ) (k : ℕ) → length s ≡ 7 → k ≡ place_of (kind_of x.1) → k < 7 → CountsSends ss os s →
@@ -184,16 +118,6 @@ counts_more ss x os s k w e lt c j below = ⊎_elim hit miss (cases_eq j k)
         let add : ◌≡◌ {A = ℕ} (cond (place_of (kind_of x.1) == j) 1 0) 0 = rw (ne_eqb (place_of (kind_of x.1)) j (λ z. ne (sym z ∙ sym e))) refl in
         omega (arith, now, add, one, had)
 
--- the port that a message goes out on
-pub port_out : (old l : ChannelsState) (v : ℕ) (ss : Outgoing) (i : ℕ) (x : ℕ × Message) →
-    GoOut old v ss →
-    SamePorts old l →
-    i < length ss →
-    x ≡ get_or ss i x →
-    HasQueue l v x.0
-port_out old l v ss i x out same lt is =
-    (same.queues v x.0).0 (let P : ℕ × Message → Type 0 = λ y. HasQueue old v y.0 in subst P (sym is) (out i x lt))
-
 -- no kind has more messages than there are
 pub kind_few : (k : ℕ) (ss : Outgoing) → of_kind k (messages_of ss) ≤ length ss
 kind_few k [] = omega arith
@@ -204,7 +128,7 @@ kind_few k (s ∷ ss) = let rest = kind_few k ss in let one = one_few (place_of 
     one_few false = omega arith
 
 -- the loop of all sends: at the start, and one message on
-pub none_sent : (g : Shape) (v : ℕ) (ss : Outgoing) (l : ChannelsState) (s : List ℕ) → HasRoomFor v ss l → Sent g v ss 0 l l s s
+pub none_sent : (g : Shape) (v : ℕ) (ss : Outgoing) (l : ChannelsState Message) (s : List ℕ) → HasRoomFor v ss l → Sent g v ss 0 l l s s
 none_sent g v ss l s room = record {
   arrives = record { ports = same_alike l; queue = λ u r at. sym (none u r); rooms = λ u r at. omega arith; total = omega arith };
   room = room;
@@ -217,7 +141,7 @@ none_sent g v ss l s room = record {
         elim (far (network_of g) u r == v) as (λ b. queue_at l u r ++ cond b [] [] ≡ queue_at l u r)
         [ true ↦ append-nil _ | false ↦ append-nil _ ]
 
-pub one_sent : (g : Shape) (v : ℕ) (ss : Outgoing) (i : ℕ) (d x : ℕ × Message) (old l l' : ChannelsState) (os s : List ℕ) (k : ℕ) →
+pub one_sent : (g : Shape) (v : ℕ) (ss : Outgoing) (i : ℕ) (d x : ℕ × Message) (old l l' : ChannelsState Message) (os s : List ℕ) (k : ℕ) →
     IsFor g old →
     GoOut old v ss →
     length os ≡ 7 → i < length ss → x ≡ get_or ss i d → k ≡ place_of (kind_of x.1) → k < 7 → Sent g v ss i old l os s →

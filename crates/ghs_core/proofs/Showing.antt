@@ -8,7 +8,8 @@ use Rattle.ghs_node.specs.declared.delta.Delta.{Delta}
 use Rattle.ghs_node.specs.Kind.{kind_of, place_of}
 use Rattle.ghs_node.specs.NodeState.{NodeState}
 use Rattle.ghs_node.specs.Reaction.{after}
-use Rattle.ghs_channels.specs.Channels.{ChannelsState, HasQueue, IsFor, queue_at}
+use Rattle.peer_channels.specs.Channels.{ChannelsState, IsFor, queue_at}
+use Rattle.peer_channels.proofs.lemmas.Rooms.{port_queue}
 use Rattle.peer_network.specs.declared.event.Event.{Event}
 use Rattle.peer_network.specs.Network.{Network, network_of, At}
 use Rattle.ghs_protocol.specs.Net.{Net, take_first, change, left_of, one_if_consumed}
@@ -23,11 +24,7 @@ use Rattle.ghs_core.specs.Kept.{Shows, no_node}
 use Rattle.ghs_core.proofs.Arriving.{machine_arrives}
 use Rattle.ghs_core.proofs.Stages.{Stage, Wakes, Takes}
 
--- a port of the graph has a queue
-pub port_queue : {g : Shape} {channels : ChannelsState} → IsFor g channels → (v p : ℕ) → At (network_of g) v p → HasQueue channels v p
-port_queue for v p at = (for.queues v p).1 (record { some = at.some; node = at.node; port = at.port })
-
-module _ (g : Shape) (w : Net) (nodes : List NodeState) (channels : ChannelsState) (counts : Counts) (for : IsFor g channels)
+module _ (g : Shape) (w : Net) (nodes : List NodeState) (channels : ChannelsState Message) (counts : Counts) (for : IsFor g channels)
     (shows : Shows (network_of g) w nodes channels counts) where
   -- where a message is taken one waits
   pub waits_at : {e : Event} {d : Delta} {x : Net} → Stage (network_of g) w e d x → WaitsAt e channels
@@ -36,7 +33,7 @@ module _ (g : Shape) (w : Net) (nodes : List NodeState) (channels : ChannelsStat
       (port_queue for v p at, let e : length (queue_at channels v p) ≡ length (m ∷ ms) = ap length (shows.queue v p at ∙ q) in omega (arith, e))
 
   -- once a message has met its fate
-  met_shows : (f : Fate) (v p : ℕ) (m : Message) (ms : List Message) (l : ChannelsState) (c : Counts) → At (network_of g) v p →
+  met_shows : (f : Fate) (v p : ℕ) (m : Message) (ms : List Message) (l : ChannelsState Message) (c : Counts) → At (network_of g) v p →
       Met f v p m ms channels l →
       CountsFate f m counts c → Shows (network_of g) (take_first f v p m ms w) nodes l c
   met_shows f v p m ms l c at met told = record {
@@ -56,7 +53,7 @@ module _ (g : Shape) (w : Net) (nodes : List NodeState) (channels : ChannelsStat
     requeued = let had = shows.requeued in let more = told.requeued in omega (arith, had, more);
   }
 
-  pub stage_shows : {e : Event} {d : Delta} {x : Net} (l : ChannelsState) (c : Counts) →
+  pub stage_shows : {e : Event} {d : Delta} {x : Net} (l : ChannelsState Message) (c : Counts) →
       Stage (network_of g) w e d x →
       Disposes e d.fate channels l counts c →
       Shows (network_of g) x nodes l c
@@ -65,7 +62,8 @@ module _ (g : Shape) (w : Net) (nodes : List NodeState) (channels : ChannelsStat
 
 -- once node v has reacted
 pub reacted_shows : (g : Shape) → IsGraph g → (v : ℕ) → 1 ≤ v → v ≤ g.nodes →
-    (d : Delta) (w : Net) (nodes : List NodeState) (n : NodeState) (l l' : ChannelsState) (c : Counts) (sent : List ℕ) → n ≡ after (w.node v) d →
+    (d : Delta) (w : Net) (nodes : List NodeState) (n : NodeState) (l l' : ChannelsState Message) (c : Counts) (sent : List ℕ) →
+    n ≡ after (w.node v) d →
     Shows (network_of g) w nodes l c → Arrives g v d.sends l l' → CountsSends d.sends c.sent sent →
     Shows (network_of g) (reacted (network_of g) v d w) (set nodes (v - 1) n) l'
     (record { sent = sent; consumed = c.consumed; requeued = c.requeued })

@@ -9,8 +9,9 @@ use Rattle.ghs_node.specs.Kind.{kind_of, place_of}
 use Rattle.ghs_node.specs.Words.{Outgoing}
 use Rattle.ghs_node.specs.NodeState.{NodeState}
 use Rattle.ghs_graph.specs.Graph.{Shape}
-use Rattle.ghs_channels.specs.Channels.{ChannelsState, HasQueue, IsFor, SamePorts, HasRoomFor, room_at, far_end, destination_of, total_of}
-use Rattle.ghs_channels.proofs.lemmas.Ports.{same_alike, same_destination, far_queue}
+use Rattle.peer_channels.specs.Channels.{ChannelsState, HasQueue, IsFor, SamePorts, HasRoomFor, room_at, total_of}
+use Rattle.peer_channels.proofs.lemmas.Ports.{same_alike}
+use Rattle.peer_channels.proofs.lemmas.Rooms.{room_kept}
 use Rattle.peer_network.specs.declared.event.Event.{Event}
 use Rattle.peer_network.specs.Network.{network_of}
 use Rattle.ghs_protocol.specs.Net.{Net, one_if_consumed}
@@ -33,7 +34,7 @@ fate_counts Consumed m =
 fate_counts Requeued m = sum_none 7 (λ k. cond (place_of (kind_of m) == k) 0 0) (λ k lt. none_or_none (place_of (kind_of m) == k))
 
 -- what the first stage leaves: fewer wait by the one that was consumed, and the sent are as they were
-pub record Disposed (channels l : ChannelsState) (counts c : Counts) : Type 0 where
+pub record Disposed (channels l : ChannelsState Message) (counts c : Counts) : Type 0 where
   pub sent : c.sent ≡ counts.sent
   pub balance : total_of l + in_all (λ k. get_or c.consumed k 0) ≡ total_of channels + in_all (λ k. get_or counts.consumed k 0)
   pub fewer : total_of l ≤ total_of channels
@@ -41,9 +42,9 @@ pub record Disposed (channels l : ChannelsState) (counts c : Counts) : Type 0 wh
   pub requeued : c.requeued ≤ counts.requeued + 1
   pub ports : SamePorts channels l
 
-module _ (g : Shape) (w : Net) (nodes : List NodeState) (channels : ChannelsState) (counts : Counts) (for : IsFor g channels)
+module _ (g : Shape) (w : Net) (nodes : List NodeState) (channels : ChannelsState Message) (counts : Counts) (for : IsFor g channels)
     (shows : Shows (network_of g) w nodes channels counts) where
-  pub disposed : {e : Event} {d : Delta} {x : Net} (l : ChannelsState) (c : Counts) →
+  pub disposed : {e : Event} {d : Delta} {x : Net} (l : ChannelsState Message) (c : Counts) →
       Stage (network_of g) w e d x →
       Disposes e d.fate channels l counts c →
       Disposed channels l counts c
@@ -69,19 +70,14 @@ module _ (g : Shape) (w : Net) (nodes : List NodeState) (channels : ChannelsStat
       }
 
   -- the first stage takes no room
-  pub disposed_room : {e : Event} {d : Delta} {x : Net} (l : ChannelsState) (c : Counts) (v : ℕ) (ss : Outgoing) → Stage (network_of g) w e d x →
+  pub disposed_room : {e : Event} {d : Delta} {x : Net} (l : ChannelsState Message) (c : Counts) (v : ℕ) (ss : Outgoing) →
+      Stage (network_of g) w e d x →
       Disposes e d.fate channels l counts c → HasRoomFor v ss channels → HasRoomFor v ss l
   disposed_room l c u ss (Wakes v d lo hi s r) z room = rw z.0 room
-  disposed_room l c u ss (Takes v p m ms d at q r) z room = λ i has.
-      let one = z m ms (shows.queue v p at ∙ q) in
-      let had = (one.0.ports.queues u i).1 has in
-      let port = (for.queues u i).0 had in
-      let led : destination_of channels u i ≡ far_end g u i = for.leads u i port in
-      let enough = rw led at (room i had) in
-      let more = one.0.rooms _ _ (far_queue g channels for u i port.port) in
-      rw (same_destination channels l one.0.ports u i, led) (omega (arith, more, enough))
+  disposed_room l c u ss (Takes v p m ms d at q r) z room =
+      let one = z m ms (shows.queue v p at ∙ q) in room_kept g channels l u ss for one.0.ports one.0.rooms room
 
-  pub disposed_rooms : {e : Event} {d : Delta} {x : Net} (l : ChannelsState) (c : Counts) →
+  pub disposed_rooms : {e : Event} {d : Delta} {x : Net} (l : ChannelsState Message) (c : Counts) →
       Stage (network_of g) w e d x →
       Disposes e d.fate channels l counts c →
       (u r : ℕ) →
@@ -90,7 +86,8 @@ module _ (g : Shape) (w : Net) (nodes : List NodeState) (channels : ChannelsStat
   disposed_rooms l c (Takes v p m ms d at q r) z = (z m ms (shows.queue v p at ∙ q)).0.rooms
 
 -- the second stage: the sends are counted
-pub fit_more : (n : ℕ) (channels l l' : ChannelsState) (counts c : Counts) (sent : List ℕ) (g : Shape) (v : ℕ) (ss : Outgoing) → length ss ≤ 8388610 →
+pub fit_more : (n : ℕ) (channels l l' : ChannelsState Message) (counts c : Counts) (sent : List ℕ) (g : Shape) (v : ℕ) (ss : Outgoing) →
+    length ss ≤ 8388610 →
     CountsFit n channels counts → Disposed channels l counts c → Arrives g v ss l l' → CountsSends ss c.sent sent →
     CountsFit (n + 1) l' (record { sent = sent; consumed = c.consumed; requeued = c.requeued })
 fit_more n channels l l' counts c sent g v ss few fit s a told =
@@ -107,7 +104,7 @@ fit_more n channels l l' counts c sent g v ss few fit s a told =
     }
 
 -- there is room for the counts of one event more
-pub total_fits : (n : ℕ) (channels l : ChannelsState) (counts c : Counts) (k : ℕ) →
+pub total_fits : (n : ℕ) (channels l : ChannelsState Message) (counts c : Counts) (k : ℕ) →
     n < 2 ^ 40 →
     k ≤ 8388610 →
     CountsFit n channels counts →
@@ -119,7 +116,7 @@ total_fits n channels l counts c k lt few fit s =
     let t = s.fewer in
     omega (arith, a, b, t)
 
-pub sent_fits : (n : ℕ) (channels l : ChannelsState) (counts c : Counts) (k i : ℕ) →
+pub sent_fits : (n : ℕ) (channels l : ChannelsState Message) (counts c : Counts) (k i : ℕ) →
     n < 2 ^ 40 →
     k ≤ 8388610 →
     CountsFit n channels counts →
@@ -132,7 +129,7 @@ sent_fits n channels l counts c k i lt few fit s below =
     let a = fit.sent in
     omega (arith, one, same, a)
 
-pub consumed_fits : (n : ℕ) (channels : ChannelsState) (counts : Counts) (i : ℕ) →
+pub consumed_fits : (n : ℕ) (channels : ChannelsState Message) (counts : Counts) (i : ℕ) →
     n < 2 ^ 40 →
     CountsFit n channels counts →
     i < 7 →

@@ -3,7 +3,8 @@ use Rattle.std.specs.Prelude.{◌≡◌, ℕ, ◌+◌, ◌-◌, ◌*◌, ◌≤�
 use Rattle.ghs_graph.specs.Graph.{Shape, IsGraph}
 use Rattle.ghs_graph.specs.Ports.{ports_of}
 use Rattle.ghs_node.specs.NodeState.{NodeState, sleeper}
-use Rattle.ghs_channels.specs.Channels.{ChannelsState, IsFor, queue_at, total_of}
+use Rattle.ghs_node.specs.declared.message.Message.{Message}
+use Rattle.peer_channels.specs.Channels.{ChannelsState, IsFor, queue_at, total_of}
 use Rattle.peer_network.specs.declared.event.Event.{Event}
 use Rattle.peer_network.specs.Network.{Network, network_of, At}
 use Rattle.ghs_protocol.specs.Net.{Net}
@@ -19,7 +20,7 @@ abbrev pub no_node : NodeState
 no_node = sleeper 0 []
 
 -- nodes, queues and counts are those of the net
-pub record Shows (g : Network) (w : Net) (nodes : List NodeState) (channels : ChannelsState) (counts : Counts) : Type 0 where
+pub record Shows (g : Network) (w : Net) (nodes : List NodeState) (channels : ChannelsState Message) (counts : Counts) : Type 0 where
   pub count : length nodes ≡ g.count
   pub node : (v : ℕ) → 1 ≤ v → v ≤ g.count → slice_index_or nodes (v - 1) no_node ≡ w.node v
   pub queue : (v p : ℕ) → At g v p → queue_at channels v p ≡ w.queue v p
@@ -28,14 +29,15 @@ pub record Shows (g : Network) (w : Net) (nodes : List NodeState) (channels : Ch
   pub requeued : counts.requeued ≡ w.requeued
 
 -- The counts after n events: none is too large, since an event sends at most 8388610 messages, and together they say how many wait.
-pub record CountsFit (n : ℕ) (channels : ChannelsState) (counts : Counts) : Type 0 where
+pub record CountsFit (n : ℕ) (channels : ChannelsState Message) (counts : Counts) : Type 0 where
   pub sent : in_all (λ k. slice_index counts.sent k) ≤ n * 8388610
   pub consumed : in_all (λ k. slice_index counts.consumed k) ≤ n
   pub requeued : counts.requeued ≤ n
   pub waiting : total_of channels + in_all (λ k. slice_index counts.consumed k) ≡ in_all (λ k. slice_index counts.sent k)
 
 -- the fields are those of the net after a run of the graph
-pub record IsKept (g : Shape) (es : List Event) (nodes : List NodeState) (channels : ChannelsState) (counts : Counts) (halts : Halts) : Type 0 where
+pub record IsKept (g : Shape) (es : List Event) (nodes : List NodeState) (channels : ChannelsState Message) (counts : Counts)
+    (halts : Halts) : Type 0 where
   pub graph : IsGraph g
   pub run : IsRun (network_of g) es
   pub queues : IsFor g channels

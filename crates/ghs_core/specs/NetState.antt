@@ -6,7 +6,7 @@ use Rattle.ghs_node.specs.declared.delta.Delta.{Delta}
 use Rattle.ghs_node.specs.declared.work.Work.{Work}
 use Rattle.ghs_node.specs.declared.work.Work.TheVariants as works
 use Rattle.ghs_node.specs.Reaction.{reaction}
-use Rattle.ghs_channels.specs.Channels.{ChannelsState, HasRoomFor, KeepsLists, room_at}
+use Rattle.peer_channels.specs.Channels.{ChannelsState, HasRoomFor, KeepsLists, room_at}
 use Rattle.peer_network.specs.declared.event.Event.{Event}
 use Rattle.peer_network.specs.declared.event.Event.TheVariants.{Wake, Take}
 use Rattle.peer_network.specs.Network.{Network, network_of, At}
@@ -20,7 +20,7 @@ use Rattle.ghs_core.specs.Halts.{IsLeast}
 pub record NetState : Type 0 where
   pub graph : Shape
   pub trace : List Event
-  pub channels : ChannelsState
+  pub channels : ChannelsState Message
   pub spare : ℕ
 
 abbrev pub network : NetState → Network

@@ -1,20 +1,20 @@
 //! Messages on their way: what one reaction does to the queues.
 ghost use Rattle.std.specs.Prelude.{◌≡◌, ℕ, ◌+◌, ◌-◌, ◌<◌, ◌≤◌, ◌^◌, List, ◌∷◌, length, slice_index};
 ghost use Rattle.ghs_node.specs.declared.message.Message.{Message as Letter};
-ghost use Rattle.ghs_channels.specs.Channels.{HasQueue, first_queue, IsFor, IsForSome, GoOut, HasRoomFor, queue_at, total_of};
+ghost use Rattle.peer_channels.specs.Channels.{HasQueue, first_queue, IsFor, IsForSome, GoOut, HasRoomFor, queue_at, total_of};
 ghost use Rattle.ghs_graph.specs.Graph.{Shape};
 ghost use Rattle.peer_network.specs.Events.{event_node};
 ghost use Rattle.ghs_core.specs.Dispatch.{Arrives, CountsSends, Met, CountsFate, WaitsAt, Disposes};
 
 use crate::counts::Counts;
-use ghs_channels::channels::Channels;
 use ghs_node::delta::Fate;
 use ghs_node::message::Message;
+use peer_channels::channels::Channels;
 use peer_network::event::Event;
 
 /// Sends messages out from node `v`, whose queues begin at `start`, in their order. There is room for them at the far ends.
 pub fn send_all(
-    channels: &mut Channels,
+    channels: &mut Channels<Message>,
     sent: &mut [u64; 7],
     start: u32,
     v: u32,
@@ -37,7 +37,7 @@ pub fn send_all(
 
 /// The first message that waits at a port meets its fate: it is gone, or goes to the end.
 fn meet_fate(
-    channels: &mut Channels,
+    channels: &mut Channels<Message>,
     counts: &mut Counts,
     start: u32,
     v: u32,
@@ -66,7 +66,13 @@ fn meet_fate(
 }
 
 /// Disposes of the message that an event takes, before its node reacts: it meets its fate. The node's queues begin at `start`.
-pub fn dispose(channels: &mut Channels, counts: &mut Counts, start: u32, event: Event, fate: Fate)
+pub fn dispose(
+    channels: &mut Channels<Message>,
+    counts: &mut Counts,
+    start: u32,
+    event: Event,
+    fate: Fate,
+)
     requires start { start ≡ first_queue channels.old (event_node event) }
     requires waits { WaitsAt event channels.old }
     requires consumed { (k : ℕ) → k < 7 → slice_index counts.old.consumed k < 2 ^ 64 - 1 }

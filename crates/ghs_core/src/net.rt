@@ -16,7 +16,7 @@ ghost use Rattle.ghs_core.specs.Marked.{AreBranches, AreInTree, IsExactWhere, Is
 ghost use Rattle.ghs_core.specs.Census.{IsCensus, AreLarge};
 ghost use Rattle.ghs_core.specs.PutBack.{IsPutBack};
 ghost use Rattle.ghs_node.specs.declared.message.Message.{Message as Letter};
-ghost use Rattle.ghs_channels.specs.Channels.{first_queue};
+ghost use Rattle.peer_channels.specs.Channels.{first_queue};
 ghost use Rattle.peer_index.specs.Places.{IsPlaced};
 ghost use Rattle.ghs_protocol.specs.Living.{Waits};
 
@@ -28,7 +28,6 @@ use crate::ledger::Ledger;
 use crate::marked::{Ends, branch_links, numbers_alike};
 use crate::parts::open_parts;
 use crate::waits::waits;
-use ghs_channels::channels::Channels;
 use ghs_graph::graph::Graph;
 use ghs_graph::key::Key;
 use ghs_graph::spanning::span;
@@ -38,6 +37,7 @@ use ghs_node::mark::Mark;
 use ghs_node::message::{Message, Phase};
 use ghs_node::node::Node;
 use ghs_node::work::Work;
+use peer_channels::channels::Channels;
 use peer_index::placed::Placed;
 use peer_network::event::{Event, node_of};
 use std::alloc::{AllocError, Global};
@@ -48,7 +48,7 @@ use std::marker::Model;
 pub struct Net {
     graph: Graph,
     nodes: Vec<Node>,
-    channels: Channels,
+    channels: Channels<Message>,
     counts: Counts,
     halts: Halts,
     trace: Vec<Event>,
@@ -122,8 +122,7 @@ impl Net {
         requires { IsPlaced (network self.now) placed }
         ensures { result ≡ first_queue self.now.channels (event_node placed.event) }
     {
-        let _ = &self.channels;
-        placed.base - (node_of(placed.event) - 1)
+        self.channels.start_of(placed)
     }
 
     /// Whether an event of a node whose queues begin at `start` may happen now.

@@ -1,20 +1,21 @@
 //! The parts of an opening net.
 ghost use Rattle.std.specs.Prelude.{◌≡◌, ℕ, [], IfOk};
-ghost use Rattle.ghs_channels.specs.Channels.{IsFor, AllEmpty, total_of};
+ghost use Rattle.peer_channels.specs.Channels.{IsFor, AllEmpty, total_of};
 ghost use Rattle.ghs_core.specs.Halts.{AreHalts, none_halted};
 ghost use Rattle.ghs_core.specs.Kept.{AreAsleep};
 
 use crate::halts::Halts;
-use ghs_channels::channels::Channels;
 use ghs_graph::graph::Graph;
+use ghs_node::message::Message;
 use ghs_node::node::Node;
+use peer_channels::channels::Channels;
 use std::alloc::{AllocError, Global};
 
 /// All nodes, all queues, and what has halted.
 #[derive(Debug, Drop)]
 pub struct Parts {
     pub nodes: Vec<Node>,
-    pub channels: Channels,
+    pub channels: Channels<Message>,
     pub halts: Halts,
 }
 

@@ -4,7 +4,7 @@
 //! Proved: the bytes of `data_of` are exactly those of `data_json` in `specs/`. The events have to be a run of the graph,
 //! at most 2^40; `ghs_view` judges stored ones before. docs/FORMATS.md has the format.
 //!
-//! Next: `ghs_page`, which puts a page round such data, and `boruvka_view`, with those of the other protocol.
+//! Next: `ghs_page`, which puts a page round such data, and `peer_view`, with the data of any other protocol.
 #![tactic(auto)]
 
 pub mod data;

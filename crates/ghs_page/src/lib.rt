@@ -6,7 +6,7 @@
 //! scripts show is tested in a browser (`page/test`, `page/test_pair`), and not proved.
 //!
 //! The data may hold no `<`, by which the element that it stands in could end; that is for the caller to see to. Next:
-//! `ghs_view`.
+//! `ghs_view` and `peer_view`.
 #![tactic(auto)]
 
 pub mod page;

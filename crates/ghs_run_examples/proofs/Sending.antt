@@ -3,13 +3,13 @@ use Rattle.std.proofs.Common.{◌≡◌, ℕ, zero, suc, ◌<◌, ◌==◌, [], 
 use Rattle.ghs_node.specs.declared.message.Message.{Message}
 use Rattle.ghs_node.specs.Words.{Outgoing}
 use Rattle.ghs_graph.specs.Graph.{Shape}
-use Rattle.ghs_channels.specs.Channels.{ChannelsState, HasQueue, IsPort, IsFor, GoOut, HasRoomFor, room_at, destination_of, far_end}
+use Rattle.peer_channels.specs.Channels.{ChannelsState, HasQueue, IsPort, IsFor, GoOut, HasRoomFor, room_at, destination_of, far_end}
 
-pub one_out : (l : ChannelsState) (v p : ℕ) (m : Message) → HasQueue l v p → GoOut l v ((p, m) ∷ [])
+pub one_out : (l : ChannelsState Message) (v p : ℕ) (m : Message) → HasQueue l v p → GoOut l v ((p, m) ∷ [])
 one_out l v p m h zero d lt = h
 one_out l v p m h (suc k) d lt = absurd (omega arith)
 
-pub one_has_room : (l : ChannelsState) (v p : ℕ) (m : Message) → HasQueue l v p → HasRoomFor v ((p, m) ∷ []) l →
+pub one_has_room : (l : ChannelsState Message) (v p : ℕ) (m : Message) → HasQueue l v p → HasRoomFor v ((p, m) ∷ []) l →
     0 < room_at l (destination_of l v p).0 (destination_of l v p).1
 one_has_room l v p m h room =
     let r = room p h in
@@ -17,6 +17,6 @@ one_has_room l v p m h room =
     omega (arith, r, one)
 
 -- the same, of the far end in the graph
-pub far_has_room : (g : Shape) (l : ChannelsState) → IsFor g l → (v p : ℕ) (m : Message) → IsPort g v p → HasRoomFor v ((p, m) ∷ []) l →
+pub far_has_room : (g : Shape) (l : ChannelsState Message) → IsFor g l → (v p : ℕ) (m : Message) → IsPort g v p → HasRoomFor v ((p, m) ∷ []) l →
     0 < room_at l (far_end g v p).0 (far_end g v p).1
 far_has_room g l for v p m at room = rw (for.leads v p at) at (one_has_room l v p m ((for.queues v p).1 at) room)

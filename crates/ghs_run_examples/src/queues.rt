@@ -1,14 +1,14 @@
 //! The queues of a path.
-ghost use Rattle.ghs_channels.specs.Channels.{IsFor, IsPort};
+ghost use Rattle.peer_channels.specs.Channels.{IsFor, IsPort};
 
 use crate::comparing::{assert_same, assert_same_of};
-use ghs_channels::channels::Channels;
 use ghs_graph::graph::Graph;
 use ghs_graph::key::Key;
 use ghs_node::level::Level;
 use ghs_node::message::Message;
 use ghs_test_graphs::build::graph_of;
 use ghs_test_graphs::graphs::PATH_OF_THREE;
+use peer_channels::channels::Channels;
 use std::process::Abort;
 
 /// Sees that the graph has a port.
@@ -22,7 +22,7 @@ fn expect_port(rt: &impl Abort, graph: &Graph, v: u32, port: u32)
 /// Sends a message out on a port.
 fn send(
     rt: &impl Abort,
-    channels: &mut Channels,
+    channels: &mut Channels<Message>,
     graph: &Graph,
     v: u32,
     port: u32,
@@ -43,7 +43,7 @@ fn send(
 /// The same, by a push at the far end.
 fn push(
     rt: &impl Abort,
-    channels: &mut Channels,
+    channels: &mut Channels<Message>,
     graph: &Graph,
     v: u32,
     port: u32,
@@ -64,7 +64,7 @@ fn push(
 }
 
 /// Sends the first message of a port to the end of its queue.
-fn requeue(rt: &impl Abort, channels: &mut Channels, graph: &Graph, v: u32, port: u32)
+fn requeue(rt: &impl Abort, channels: &mut Channels<Message>, graph: &Graph, v: u32, port: u32)
     requires { IsFor graph.now channels.old }
     ensures { IsFor graph.now channels.new }
 {
@@ -75,7 +75,7 @@ fn requeue(rt: &impl Abort, channels: &mut Channels, graph: &Graph, v: u32, port
 /// Takes the first message of a port.
 fn take(
     rt: &impl Abort,
-    channels: &mut Channels,
+    channels: &mut Channels<Message>,
     graph: &Graph,
     v: u32,
     port: u32,
@@ -90,7 +90,7 @@ fn take(
 /// What waits at a port: how many messages, and the first.
 fn look(
     rt: &impl Abort,
-    channels: &Channels,
+    channels: &Channels<Message>,
     graph: &Graph,
     v: u32,
     port: u32,
@@ -104,7 +104,7 @@ fn look(
 /// So many messages wait at a port, the first of which is this.
 fn sees(
     rt: &impl Abort,
-    channels: &Channels,
+    channels: &Channels<Message>,
     graph: &Graph,
     v: u32,
     port: u32,
@@ -121,7 +121,7 @@ fn sees(
 }
 
 /// No message waits at a port.
-fn sees_none(rt: &impl Abort, channels: &Channels, graph: &Graph, v: u32, port: u32)
+fn sees_none(rt: &impl Abort, channels: &Channels<Message>, graph: &Graph, v: u32, port: u32)
     requires { IsFor graph.now channels.now }
 {
     sees(rt, channels, graph, v, port, (0, None));
@@ -130,7 +130,7 @@ fn sees_none(rt: &impl Abort, channels: &Channels, graph: &Graph, v: u32, port: 
 /// The first message of a port is this, and is taken.
 fn takes(
     rt: &impl Abort,
-    channels: &mut Channels,
+    channels: &mut Channels<Message>,
     graph: &Graph,
     v: u32,
     port: u32,
@@ -143,7 +143,7 @@ fn takes(
     assert_same(rt, &taken, &message);
 }
 
-fn assert_total(rt: &impl Abort, channels: &Channels, total: u64) {
+fn assert_total(rt: &impl Abort, channels: &Channels<Message>, total: u64) {
     assert_same(rt, &channels.total(), &total);
 }
 
@@ -159,7 +159,7 @@ const TEST: Message = Message::Test(
 );
 
 /// At first no port of the path has a message.
-fn starts_empty(rt: &impl Abort, channels: &Channels, graph: &Graph)
+fn starts_empty(rt: &impl Abort, channels: &Channels<Message>, graph: &Graph)
     requires { IsFor graph.now channels.now }
 {
     for (v, port) in [(1, 0), (2, 0), (2, 1), (3, 0)] {
@@ -168,7 +168,7 @@ fn starts_empty(rt: &impl Abort, channels: &Channels, graph: &Graph)
 }
 
 /// Two messages are sent, and one of them is taken.
-fn move_messages(rt: &impl Abort, channels: &mut Channels, graph: &Graph)
+fn move_messages(rt: &impl Abort, channels: &mut Channels<Message>, graph: &Graph)
     requires { IsFor graph.now channels.old }
     ensures { IsFor graph.now channels.new }
 {

@@ -1,15 +1,11 @@
 -- The page of a run.
-use Rattle.std.specs.Prelude.{◌≡◌, ◌⊎◌, ℕ, ◌<◌, List, length, min, take}
+use Rattle.std.specs.Prelude.{◌≡◌, ℕ, List, length}
 use Rattle.ghs_data.specs.Data.{data_json}
 use Rattle.ghs_graph.specs.Bound.{IsBound}
 use Rattle.ghs_graph.specs.Graph.{Shape}
 use Rattle.ghs_page.specs.Page.{page_text}
 use Rattle.peer_network.specs.declared.event.Event.{Event}
-use Rattle.ghs_view.specs.declared.page.TheConstants.{PAGE_EVENTS, PAGE_NODES}
-
--- the events up to a number, which count from 1
-abbrev pub events_to : ℕ → List Event → List Event
-events_to to es = take (min to (length es)) es
+use Rattle.peer_page.specs.Limits.{events_to}
 
 -- the data of a run whose events are shown up to one
 abbrev pub run_json : Shape → List Event → ℕ → ℕ → ℕ → List ℕ
@@ -20,7 +16,3 @@ pub record IsRunPage (g : Shape) (es : List Event) (from to : ℕ) (text : List 
   pub bound : ℕ
   pub is_bound : IsBound g.nodes (length g.keys) bound
   pub printed : text ≡ page_text (run_json g es from to bound)
-
--- more than a page takes
-abbrev pub IsTooLarge : Shape → List Event → ℕ → Type 0
-IsTooLarge g es to = (PAGE_NODES < g.nodes) ⊎ (PAGE_EVENTS < length (events_to to es))

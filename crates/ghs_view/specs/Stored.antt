@@ -7,9 +7,9 @@ use Rattle.ghs_protocol.specs.Run.{IsRunUnder}
 use Rattle.ghs_sched.specs.Replays.{IsFirstUnlawful}
 use Rattle.peer_network.specs.declared.wake_set.WakeSet.{WakeSet}
 use Rattle.peer_network.specs.Wakes.{may_wake}
-use Rattle.ghs_view.specs.declared.stored.StoredFault.{StoredFault}
-use Rattle.ghs_view.specs.declared.stored.StoredFault.TheVariants.{Memory, NotLawful, TooLarge}
-use Rattle.ghs_view.specs.RunPage.{IsTooLarge}
+use Rattle.peer_page.specs.Limits.{IsTooLarge}
+use Rattle.peer_page.specs.declared.fault.StoredFault.{StoredFault}
+use Rattle.peer_page.specs.declared.fault.StoredFault.TheVariants.{Memory, NotLawful, TooLarge}
 
 -- the first event that can't happen where it stands; a run that a page can't take; out of memory may come anywhere
 abbrev pub HasNoPage : Shape → WakeSet → List Event → ℕ → StoredFault → Type 0

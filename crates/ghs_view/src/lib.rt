@@ -4,8 +4,8 @@
 //! (`page`, `large`); so is `pair_page`. `stored_page` judges the events first, and names the first that isn't lawful
 //! (`fault`).
 //!
-//! At most 2,000 nodes (`PAGE_NODES`) and 100,000 events that are shown (`PAGE_EVENTS`). What a browser makes of a page
-//! is tested and not proved (`ghs_page`).
+//! At most 2,000 nodes and 100,000 events that are shown (`peer_page`). What a browser makes of a page is tested and not proved
+//! (`ghs_page`).
 #![tactic(auto)]
 
 pub mod page;

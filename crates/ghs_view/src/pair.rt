@@ -1,16 +1,18 @@
 //! The page of two runs.
-ghost use Rattle.std.specs.Prelude.{◌≡◌, ◌≤◌, ◌^◌, ◌↔◌, IfOk, IsErrOf, length};
+ghost use Rattle.std.specs.Prelude.{◌≤◌, ◌^◌, ◌↔◌, IfOk, IsErrOf, length};
 ghost use Rattle.peer_network.specs.Network.{network_of};
 ghost use Rattle.ghs_protocol.specs.Run.{IsRun};
-ghost use Rattle.ghs_view.specs.PairPage.{IsPairPage, IsPairTooLarge};
-ghost use Rattle.ghs_view.specs.declared.page.PageFault.TheVariants.{TooLarge};
+ghost use Rattle.peer_page.specs.Limits.{IsPairTooLarge};
+ghost use Rattle.peer_page.specs.declared.fault.PageFault.TheVariants.{TooLarge};
+ghost use Rattle.ghs_view.specs.PairPage.{IsPairPage};
 
-use crate::page::{PageFault, first_events, is_too_large};
 use ghs_core::event::Event;
 use ghs_data::data::data_of;
 use ghs_graph::bounds::bound;
 use ghs_graph::graph::Graph;
 use ghs_page::page;
+use peer_page::fault::PageFault;
+use peer_page::limits::{first_events, is_too_large};
 use std::alloc::Global;
 
 /// The page of two runs of one network, beside each other: of each its steps from the opening on to the event `to`, or to its

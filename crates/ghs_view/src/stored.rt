@@ -2,29 +2,20 @@
 ghost use Rattle.peer_network.specs.Network.{network_of};
 ghost use Rattle.ghs_protocol.specs.Run.{IsRunUnder};
 ghost use Rattle.peer_texts.specs.declared.trace.TheConstants.{EVENT_LIMIT};
-ghost use Rattle.ghs_view.specs.RunPage.{IsRunPage, IsTooLarge};
+ghost use Rattle.peer_page.specs.Limits.{IsTooLarge};
+ghost use Rattle.ghs_view.specs.RunPage.{IsRunPage};
 ghost use Rattle.ghs_view.specs.Stored.{HasNoPage};
 ghost use Rattle.peer_network.specs.Wakes.{may_wake};
-ghost use Rattle.std.specs.Prelude.{◌≡◌, ◌≤◌, IfErr, IfOk, OnOk, length};
+ghost use Rattle.std.specs.Prelude.{◌≤◌, IfErr, IfOk, OnOk, length};
 
-use crate::page::{PageFault, run_page};
+use crate::page::run_page;
 use ghs_core::event::Event;
 use ghs_graph::graph::Graph;
 use ghs_sched::replay::replay;
 use peer_network::wake_set::WakeSet;
+use peer_page::fault::{PageFault, StoredFault};
 use peer_schedule::fault::ReplayFault;
 use std::alloc::Global;
-
-/// Why a stored run has no page. Events are counted from 1.
-#[derive(Clone, Copy, Debug, Drop, PartialEq, Eq)]
-pub enum StoredFault {
-    /// The first event that isn't lawful where it stands.
-    NotLawful(u64),
-    /// The network has too many nodes, or too many events are to be shown.
-    TooLarge,
-    /// Memory ran out.
-    Memory,
-}
 
 /// The page of a stored run, from the opening on to the event `to`; it opens before the event `from`. A run that hasn't
 /// ended is shown too. Refusals, in this order: an event isn't lawful; the page is too large; out of memory comes where

@@ -15,7 +15,7 @@ ghost use Rattle.peer_network.specs.Network.{At, network_of, is_node};
 ghost use Rattle.ghs_protocol.specs.Net.{opening, is_lawful_under};
 ghost use Rattle.ghs_protocol.specs.Run.{IsRunUnder};
 ghost use Rattle.ghs_protocol.specs.Marks.{HasEnded};
-ghost use Rattle.ghs_channels.specs.Channels.{first_queue};
+ghost use Rattle.peer_channels.specs.Channels.{first_queue};
 ghost use Rattle.ghs_core.specs.NetState.{network, net_of, event_node, IsLawful, IsAnswer, HasRoomToPlay, IsLeastHalted};
 ghost use Rattle.ghs_core.specs.Census.{IsCensus, AreLarge};
 ghost use Rattle.ghs_core.specs.PutBack.{IsPutBack};

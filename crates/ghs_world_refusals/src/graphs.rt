@@ -1,5 +1,4 @@
 //! Graph texts, graphs and what is laid out for them.
-use ghs_channels::channels::Channels;
 use ghs_flags::flags::Flags;
 use ghs_gr::device::Device;
 use ghs_gr::fault::GrFault;
@@ -14,6 +13,7 @@ use ghs_graph::union_find::Roots;
 use ghs_refusing::orders::{Turn, order, refuse, turn_of};
 use ghs_refusing::scenes::{five, is_five};
 use ghs_test_graphs::graphs::PATH_OF_FIVE;
+use peer_channels::channels::Channels;
 use peer_index::index::Index;
 use std::alloc::Global;
 use std::process::Abort;
@@ -131,7 +131,7 @@ fn make_of_graph(alloc: Global, graph: &Graph, made: Made, k: usize) -> Option<T
     match made {
         Made::Copy => Some(turn_of(alloc, k, &graph.copy(alloc))),
         Made::SlowTree => Some(turn_of(alloc, k, &tree_slow(alloc, graph))),
-        Made::Channels => Some(turn_of(alloc, k, &Channels::new(alloc, graph))),
+        Made::Channels => Some(turn_of(alloc, k, &Channels::<u64>::new(alloc, graph))),
         Made::Index => Some(turn_of(alloc, k, &Index::none(alloc, graph))),
         _ => None,
     }

@@ -24,7 +24,7 @@ pub mod fault;
 pub mod kind;
 pub mod laws;
 pub mod line;
-mod parts;
+pub mod parts;
 pub mod question;
 mod words;
 pub mod writing;

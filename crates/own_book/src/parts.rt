@@ -5,7 +5,7 @@ ghost use Rattle.std.specs.Prelude.{IfNone, IfSome, None, Some, [], length, ◌<
 use bstr::ByteSlice;
 
 /// What is in front of the first such byte, and what is behind it; none where there is no such byte.
-pub(crate) fn cut(text: &[u8], byte: u8) -> Option<(&[u8], &[u8])>
+pub fn cut(text: &[u8], byte: u8) -> Option<(&[u8], &[u8])>
     ensures some { IfSome result (λ x. cut_at byte text.now ≡ Some (x.0.now, x.1.now)) }
     ensures parts { IfSome result (λ x. parts_at byte text.now ≡ x.0.now ∷ parts_at byte x.1.now) }
     ensures shorter { IfSome result (λ x. length x.1.now < length text.now) }

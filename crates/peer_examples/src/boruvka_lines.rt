@@ -74,7 +74,7 @@ const FOUR_LINES: &str = "\
 17 2 1 3 connect(1) Connect_core done mark.1=branch;level=2;name=3:2-3;phase=search;parent=-;best=-;out=- 0>1:initiate(2,3:2-3);1>3:initiate(2,3:2-3) 15\n\
 ";
 
-const PAIR_JSON: &str =
+pub const PAIR_JSON: &str =
     r#"{"step":1,"node":2,"port":null,"far":null,"kind":"wake","row":"Wakes","fate":null,"marks":[],"set":{"phase":"rest","out":0},"send":[{"port":0,"to":1,"at":0,"kind":"connect","level":0}],"total":1}
 {"step":2,"node":1,"port":0,"far":2,"kind":"connect","level":0,"row":"Connect_core","fate":"done","marks":[[0,"branch"]],"set":{"level":1,"name":"5:1-2","phase":"search"},"send":[{"port":0,"to":2,"at":0,"kind":"connect","level":0},{"port":0,"to":2,"at":0,"kind":"initiate","level":1,"key":"5:1-2"}],"total":3}
 {"step":3,"node":2,"port":0,"far":1,"kind":"connect","level":0,"row":"Connect_core","fate":"done","marks":[[0,"asked"]],"set":{},"send":[],"total":3}

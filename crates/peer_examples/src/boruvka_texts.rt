@@ -2,12 +2,12 @@
 use crate::playing::{leave, let_go, net_of, play_part, world_of};
 use crate::runs::TRIANGLE_RUN;
 use boruvka::protocol::Boruvka;
-use boruvka_report::ended::{ended, net_ended};
-use boruvka_report::report_text::{ReportFault, report_text};
-use boruvka_report::run_text::run_text;
 use ghs_test_graphs::graphs::{LONE_NODE, PAIR_AND_NODE, PATH_OF_THREE, TRIANGLE};
 use peer_net::net::Net;
 use peer_network::wake_set::WakeSet;
+use peer_report::account::ReportFault;
+use peer_report::ended::{ended, net_ended};
+use peer_report::report_text::{report_text, run_text};
 use peer_runs::world::World;
 use std::alloc::Global;
 use std::process::Abort;

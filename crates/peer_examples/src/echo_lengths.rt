@@ -1,8 +1,8 @@
 //! How long runs of the echo wave are, whose messages have one bit each. Over each link one goes out in each direction.
 use crate::playing::assert_lengths;
-use crate::runs::{THREE_WAVES, WAVE};
+use crate::runs::{ROUND, THREE_WAVES, WAVE};
+use echo::protocol::Echo;
 use ghs_test_graphs::graphs::{PATH_OF_THREE, TRIANGLE};
-use peer_echo::echo::Echo;
 use peer_machine::event::Event;
 
 /// Where nothing has happened nothing has a length, and what waits is heard of by nobody yet.
@@ -25,16 +25,6 @@ fn the_wave_on_a_path(rt: HostRuntime) {
 fn all_wake(rt: HostRuntime) {
     assert_lengths::<Echo>(&rt, rt.alloc(), PATH_OF_THREE, &THREE_WAVES, 1, 4, 1);
 }
-
-const ROUND: [Event; 7] = [
-    Event::Wake(1),
-    Event::Take(2, 0),
-    Event::Take(3, 1),
-    Event::Take(3, 0),
-    Event::Take(2, 1),
-    Event::Take(1, 1),
-    Event::Take(1, 0),
-];
 
 /// On the triangle node 1 asks both others; each asks the other one, hears from it, and echoes. Node 1 has heard of three.
 #[test]

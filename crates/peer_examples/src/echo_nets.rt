@@ -2,8 +2,8 @@
 //! its ports but the parent, and echoes to the parent, each of its ports has had one.
 use crate::playing::{let_go, net_of, play, play_part};
 use crate::runs::WAVE;
+use echo::protocol::Echo;
 use ghs_test_graphs::graphs::PATH_OF_THREE;
-use peer_echo::echo::Echo;
 use peer_machine::event::Event;
 use peer_net::net::Net;
 use std::process::Abort;

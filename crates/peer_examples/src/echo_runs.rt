@@ -5,8 +5,8 @@
 use crate::echo_nets::has_sent;
 use crate::playing::{graph_of_text, leave, world_of};
 use crate::runs::{THREE_WAVES, WAVE};
+use echo::protocol::Echo;
 use ghs_test_graphs::graphs::{PATH_OF_FIVE, PATH_OF_THREE, TWO_PAIRS_AND_NODE};
-use peer_echo::echo::Echo;
 use peer_machine::event::Event;
 use peer_network::wake_set::WakeSet;
 use peer_runs::fault::RunFault;

@@ -23,6 +23,17 @@ pub const THREE_WAVES: [Event; 7] = [
     Event::Take(3, 0),
 ];
 
+/// The echo wave on the triangle, where node 1 alone wakes. Each of the others hears from the other one as it awaits its answer.
+pub const ROUND: [Event; 7] = [
+    Event::Wake(1),
+    Event::Take(2, 0),
+    Event::Take(3, 1),
+    Event::Take(3, 0),
+    Event::Take(2, 1),
+    Event::Take(1, 1),
+    Event::Take(1, 0),
+];
+
 /// Borůvka in step on the pair: node 2 wakes, and node 1 by its Connect. The link is the core at once, and node 1 its lesser
 /// end.
 pub const PAIR_RUN: [Event; 5] = [

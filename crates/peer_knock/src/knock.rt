@@ -3,6 +3,7 @@ ghost use Rattle.std.specs.Prelude.{◌≡◌, ℕ, [], Some, IsSome, IfOk, OnOk
 ghost use Rattle.peer_knock.specs.Knock.{knocking, knocks};
 
 use crate::node::{Change, Message, Node};
+use ghs_graph::graph::Graph;
 use ghs_graph::port::Port;
 use peer_machine::protocol::Protocol;
 use peer_machine::work::{Answer, Work};
@@ -85,6 +86,12 @@ impl Protocol for Knocking {
         match message {
             Message::Knock => 0,
         }
+    }
+
+    fn bound_of(graph: &Graph) -> u64 {
+        // Called for its clause: a graph has few links.
+        let _ = graph.nodes();
+        2 * graph.links()
     }
 
     ghost has_kinds = { knock_kinds };

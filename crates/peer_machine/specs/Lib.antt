@@ -7,3 +7,5 @@ pub mod Steps
 pub mod Laws
 pub mod Protocol
 pub mod Explorable
+pub mod Ends
+pub mod Branches

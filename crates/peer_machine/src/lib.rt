@@ -10,10 +10,12 @@
 //!
 //! A `Protocol` has its rules as a ghost member, and as laws that each lawful event has a rule, and that what is sent is
 //! within a bound. One whose messages have lengths is `Measured` (`peer_lengths`); one all of whose runs can be explored is
-//! `Explorable` (`peer_explore`). The machine mirrors that of `ghs_protocol`, over the same networks and events (`peer_network`). Read
+//! `Explorable` (`peer_explore`); one whose runs end in silence with all awake is `Ends`, and if its nodes mark the links
+//! that it finds, `FindsTree` (`peer_report`). The machine mirrors that of `ghs_protocol`, over the same networks and events (`peer_network`). Read
 //! `specs/Rules.antt` and `specs/Net.antt` first.
 #![tactic(auto)]
 
+pub mod ends;
 pub mod explorable;
 pub mod laws;
 pub mod measured;

@@ -1,5 +1,6 @@
 //! A protocol as a program.
 use crate::work::{Answer, Work};
+use ghs_graph::graph::Graph;
 use ghs_graph::port::Port;
 use std::alloc::{AllocError, Global};
 
@@ -67,6 +68,10 @@ pub trait Protocol {
     /// The kind of a message, from 0 on.
     fn kind(message: Self::Message) -> usize
         ensures { result ≡ rules.kind_of message };
+
+    /// How many messages a run of the graph sends at most. O(1).
+    fn bound_of(graph: &Graph) -> u64
+        ensures { result ≡ bound graph.now };
 
     /// Each message is of one of the kinds.
     ghost has_kinds: { HasKinds rules };

@@ -1,5 +1,5 @@
 -- Counts of messages, one more.
-use Rattle.std.proofs.Common.{◌≡◌, ◌≢◌, ℕ, ◌+◌, ◌<◌, ◌≤◌, ◌==◌, Bool, true, false, List, [], ◌∷◌, ◌++◌, length, get_or, set, refl, sym, cond, ap, ◌∙◌, ⊎_elim, arith, length-append, eq-eqb, ne_eqb}
+use Rattle.std.proofs.Common.{◌≡◌, ◌≢◌, ℕ, ◌+◌, ◌<◌, ◌≤◌, ◌==◌, Bool, true, false, List, [], ◌∷◌, ◌++◌, length, get_or, set, refl, sym, cond, ap, ◌∙◌, ⊎_elim, arith, eq-eqb, ne_eqb}
 use Rattle.std.proofs.lemmas.Bool.{cases_eq}
 use Rattle.std.proofs.lemmas.List.{length-set, get_or-set_same, get_or-set_other, get_or_default}
 use Rattle.peer_machine.specs.Rules.{Rules, Outgoing, messages}
@@ -24,12 +24,11 @@ module _ {S M : Type 0} (r : Rules S M) where
   -- a message more is counted
   pub counted_one : (old mid new : Counts) (ss : Outgoing M) (s : ℕ × M) (x : ℕ) → length old.sent.items ≡ r.kinds → CountsSends r ss old mid →
       r.kind_of s.1 < r.kinds → x ≡ get_or mid.sent.items (r.kind_of s.1) x → new.sent.items ≡ set mid.sent.items (r.kind_of s.1) (x + 1) →
-      new.consumed.items ≡ mid.consumed.items → new.queued ≡ mid.queued + 1 → new.deferred ≡ mid.deferred → CountsSends r (ss ++ s ∷ []) old new
-  counted_one old mid new ss s x kinds c lt is sent consumed queued deferred = record {
+      new.consumed.items ≡ mid.consumed.items → new.deferred ≡ mid.deferred → CountsSends r (ss ++ s ∷ []) old new
+  counted_one old mid new ss s x kinds c lt is sent consumed deferred = record {
     kinds = ap (λ (l : List ℕ). length l) sent ∙ length-set mid.sent.items (r.kind_of s.1) (x + 1) ∙ c.kinds;
     sent = λ k l. ⊎_elim (here k l) (there k l) (cases_eq k (r.kind_of s.1));
     consumed = consumed ∙ c.consumed;
-    queued = let a = c.queued in omega (arith, a, queued, length-append ss (s ∷ []));
     deferred = deferred ∙ c.deferred;
   }
     where

@@ -1,6 +1,6 @@
 -- Serves the proof: nothing here has to be believed.
-mod Lists
 mod Counting
 mod Showing
 mod Playing
+mod Starting
 mod Reading

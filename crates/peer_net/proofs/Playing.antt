@@ -1,12 +1,11 @@
 -- What a net keeps when an event is played.
-use Rattle.std.proofs.Common.{◌≡◌, ◌≢◌, ℕ, ◌+◌, ◌-◌, ◌<◌, ◌≤◌, ◌^◌, Bool, true, false, List, [], ◌∷◌, ◌++◌, length, get_or, set, cond, nat_lt, Option, Some, None, IsSome, is_some, refl, sym, ◌∙◌, ap, subst, ⊎_elim, arith, ltb-true}
+use Rattle.std.proofs.Common.{◌≡◌, ◌≢◌, ℕ, ◌+◌, ◌-◌, ◌<◌, ◌≤◌, ◌^◌, Bool, true, false, List, [], ◌∷◌, ◌++◌, length, get_or, set, cond, nat_lt, Option, Some, None, IsSome, is_some, refl, sym, ◌∙◌, ap, subst, ⊎_elim, arith, ltb-true, length-append}
 use Rattle.std.specs.List.{All}
 use Rattle.std.proofs.lemmas.Bool.{and_parts, cases_eq}
 use Rattle.std.proofs.lemmas.Option.{same_Some}
 use Rattle.std.proofs.lemmas.List.Elements.{All-nil, All-cons}
 use Rattle.std.proofs.lemmas.List.{length-set, get_or-set_same, get_or-set_other, get_or_default}
 use Rattle.ghs_graph.specs.Graph.{Shape}
-use Rattle.ghs_graph.specs.Ports.{ports_of}
 use Rattle.peer_network.specs.declared.event.Event.{Event}
 use Rattle.peer_network.specs.declared.event.Event.TheVariants as events
 use Rattle.peer_network.specs.Events.{takes_in}
@@ -15,10 +14,15 @@ use Rattle.peer_network.proofs.lemmas.Events.{node_of, at_of}
 use Rattle.peer_network.proofs.lemmas.Graphs.{graph_wired}
 use Rattle.peer_network.proofs.lemmas.Sums.{term_le}
 use Rattle.peer_network.proofs.lemmas.Updates.{put_same, put_other}
+use Rattle.peer_index.specs.Places.{HasPlace}
+use Rattle.peer_channels.specs.Queue.{QueueState}
+use Rattle.peer_channels.specs.Channels.{ChannelsState, HasQueue, SamePorts, IsFor, IsForSome, KeepsLists, GoOut, HasRoomFor, first_queue, queue_at, state_at, total_of}
+use Rattle.peer_channels.proofs.lemmas.Ports.{same_alike, same_for, same_first}
+use Rattle.peer_channels.proofs.lemmas.Rooms.{port_queue, room_kept, rooms_kept}
 use Rattle.peer_machine.specs.declared.work.Work.{Work}
 use Rattle.peer_machine.specs.declared.work.Work.TheVariants.{Deliver}
 use Rattle.peer_machine.specs.Rules.{Rules, Outcome, Outgoing, HasKinds}
-use Rattle.peer_machine.specs.Net.{Net, left_of, is_port, event_node, put, put_at, is_lawful, are_on_ports, reacted, send_all, take_first, if_reacted, takes_from, effect}
+use Rattle.peer_machine.specs.Net.{Net, left_of, is_port, event_node, put, is_lawful, are_on_ports, reacted, take_first, if_reacted, takes_from, effect}
 use Rattle.peer_machine.specs.Run.{IsAfter, IsNetOf, net_after}
 use Rattle.peer_machine.specs.Ledger.{in_all}
 use Rattle.peer_machine.specs.Protocol.{HasRules, IsBoundedBy, FitsGraphs}
@@ -29,11 +33,11 @@ use Rattle.peer_machine.proofs.lemmas.Runs.{after_is_net, after_more, net_after_
 use Rattle.peer_machine.proofs.lemmas.Sends.{nodes_put, sent_now, consumed_now, deferred_now}
 use Rattle.peer_net.specs.declared.counts.Counts.{Counts}
 use Rattle.peer_net.specs.NetState.{delivery, work_at, AreSends}
-use Rattle.peer_net.specs.Queues.{Lists, HasQueue, queue_at, LeadToQueues, push_all}
+use Rattle.peer_net.specs.Queues.{AreQueues, after_first, with_all_sent}
 use Rattle.peer_net.specs.Counts.{CountsSends}
 use Rattle.peer_net.specs.Taking.{Consumes, WaitsAt, TakesFirst, TakesIn}
-use Rattle.peer_net.specs.Kept.{AreQueues, AreCounts, AreNodes, Shows, IsKept, no_node}
-use Rattle.peer_net.proofs.Showing.{has_queue, changed, shown_as, leads, pushed, alike, own_kept, taken_after}
+use Rattle.peer_net.specs.Kept.{AreCounts, AreNodes, Shows, IsKept, no_node}
+use Rattle.peer_net.proofs.Showing.{changed, first_left, first_room, machine_sends}
 
 -- the first of what waits is taken, if anything waits
 abbrev first_taken : {S M : Type 0} → Rules S M → Shape → ℕ → ℕ → List M → Net S M → Net S M
@@ -58,6 +62,10 @@ module _ {S M : Type 0} (r : Rules S M) (g : Shape) where
   pub lawful_node : (w : Net S M) (e : Event) → is_lawful r (network_of g) w e ≡ true → (1 ≤ event_node e) × (event_node e ≤ g.nodes)
   lawful_node w (events.Wake v) h = node_of (network_of g) v (and_parts _ _ h).0
   lawful_node w (events.Take v p) h = let at = at_of (network_of g) v p (and_parts _ _ h).0 in (at.some, at.node)
+
+  pub lawful_place : (w : Net S M) (e : Event) → is_lawful r (network_of g) w e ≡ true → HasPlace (network_of g) e
+  lawful_place w (events.Wake v) h = node_of (network_of g) v (and_parts _ _ h).0
+  lawful_place w (events.Take v p) h = at_of (network_of g) v p (and_parts _ _ h).0
 
   -- a reaction that led somewhere
   some_reacted : {P : Type 0} (v : ℕ) (x : Option (Outcome S M)) (w : Net S M) → IsSome (if_reacted r (network_of g) v x w) →
@@ -109,15 +117,15 @@ pub promises_of : {S M : Type 0} {r : Rules S M} {bound : Shape → ℕ} → Has
 promises_of k h b f = record { kinds = k; rules = h; bounded = b; fits = f }
 
 -- the events of a run so far, one more that is lawful, and the reaction to it
-pub record Plays {S M : Type 0} (r : Rules S M) (bound : Shape → ℕ) (g : Shape) (es : List Event) (states : List S) (q : Lists M) (c : Counts)
+pub record Plays {S M : Type 0} (r : Rules S M) (bound : Shape → ℕ) (g : Shape) (es : List Event) (states : List S) (l : ChannelsState M) (c : Counts)
     (e : Event) (o : Outcome S M) : Type 0 where
   pub promises : Promises r bound
-  pub kept : IsKept r g es states q c
+  pub kept : IsKept r g es states l c
   pub lawful : is_lawful r (network_of g) (net_after r g es) e ≡ true
   pub answer : r.reaction ((net_after r g es).node (event_node e)) (work_at (net_after r g es) e) ≡ Some o
 
-module _ {S M : Type 0} {r : Rules S M} {g : Shape} {es : List Event} {states : List S} {q : Lists M} {c : Counts}
-    (kept : IsKept r g es states q c) where
+module _ {S M : Type 0} {r : Rules S M} {g : Shape} {es : List Event} {states : List S} {l : ChannelsState M} {c : Counts}
+    (kept : IsKept r g es states l c) where
   pub after : IsAfter r (network_of g) es (net_after r g es)
   after = after_is_net r g es kept.run
 
@@ -130,9 +138,6 @@ module _ {S M : Type 0} {r : Rules S M} {g : Shape} {es : List Event} {states : 
       let n = kept.shows.states.many in
       is ∙ get_or_default states (v - 1) x (no_node r) (omega (arith, n)) ∙ kept.shows.states.each v lo hi
 
-  pub port_queue : (v p : ℕ) → At (network_of g) v p → HasQueue q v p
-  port_queue v p at = has_queue g kept.shows.queues v p at
-
   -- what was deferred is counted in the trace, so a trace with room for one more has room in this count
   pub room : {bound : Shape → ℕ} → Promises r bound → (n cap : ℕ) → n ≡ length es → n + 1 ≤ cap → cap < 2 ^ 63 → c.deferred + 1 < 2 ^ 64
   room p n cap is fits small =
@@ -140,14 +145,32 @@ module _ {S M : Type 0} {r : Rules S M} {g : Shape} {es : List Event} {states : 
       let b = after_counts r (network_of g) p.kinds es (net_after r g es) after in
       omega (arith, is, fits, small, a, b, takes_few es)
 
+  -- more room is no change
+  pub reserved : (m : ChannelsState M) → KeepsLists l m → IsKept r g es states m c
+  reserved m k = record {
+    graph = kept.graph;
+    run = kept.run;
+    shows = record {
+      states = kept.shows.states;
+      queues = record {
+        ports = same_for g l m k.ports kept.shows.queues.ports;
+        queue = λ v p at. k.lists v p (port_queue kept.shows.queues.ports v p at) ∙ kept.shows.queues.queue v p at;
+      };
+      sent = kept.shows.sent;
+      consumed = kept.shows.consumed;
+      queued = let all = kept.shows.queued in let same = k.total in omega (arith, all, same);
+      deferred = kept.shows.deferred;
+    };
+  }
+
   -- an event that is lawful has a rule
   pub has_reaction : {bound : Shape → ℕ} → Promises r bound → (e : Event) → is_lawful r (network_of g) (net_after r g es) e ≡ true →
       IsSome (r.reaction ((net_after r g es).node (event_node e)) (work_at (net_after r g es) e))
   has_reaction p e h = rule_of r g (net_after r g es) e (p.rules g _ is_net e h) (λ o a t. ap is_some a)
 
 -- what the code has found of an event that is lawful: its node, and what the event gives it to do
-module _ {S M : Type 0} {r : Rules S M} {bound : Shape → ℕ} {g : Shape} {es : List Event} {states : List S} {q : Lists M} {c : Counts}
-    (e : Event) (promises : Promises r bound) (kept : IsKept r g es states q c) (lawful : is_lawful r (network_of g) (net_after r g es) e ≡ true)
+module _ {S M : Type 0} {r : Rules S M} {bound : Shape → ℕ} {g : Shape} {es : List Event} {states : List S} {l : ChannelsState M} {c : Counts}
+    (e : Event) (promises : Promises r bound) (kept : IsKept r g es states l c) (lawful : is_lawful r (network_of g) (net_after r g es) e ≡ true)
     (n : ℕ) (is_node : n ≡ event_node e) where
   pub node_low : 1 ≤ n
   node_low = rw is_node (lawful_node r g (net_after r g es) e lawful).0
@@ -171,7 +194,7 @@ module _ {S M : Type 0} {r : Rules S M} {bound : Shape → ℕ} {g : Shape} {es 
     pub later_is : (b : Bool) → b ≡ r.defers x k → b ≡ defers_at r (net_after r g es) e
     later_is b h = h ∙ ap (λ y. r.defers y k) the_node ∙ ap (r.defers ((net_after r g es).node (event_node e))) is_work
 
-    pub plays_of : (o : Outcome S M) → r.reaction x k ≡ Some o → Plays r bound g es states q c e o
+    pub plays_of : (o : Outcome S M) → r.reaction x k ≡ Some o → Plays r bound g es states l c e o
     plays_of o a = record {
       promises = promises;
       kept = kept;
@@ -180,15 +203,15 @@ module _ {S M : Type 0} {r : Rules S M} {bound : Shape → ℕ} {g : Shape} {es 
           ap (λ y. r.reaction y (work_at (net_after r g es) e)) (sym the_node) ∙ ap (λ z. r.reaction x z) (sym is_work) ∙ a;
     }
 
-module _ {S M : Type 0} {r : Rules S M} {bound : Shape → ℕ} {g : Shape} {es : List Event} {states : List S} {q : Lists M} {c : Counts}
-    {e : Event} {o : Outcome S M} (plays : Plays r bound g es states q c e o) where
+module _ {S M : Type 0} {r : Rules S M} {bound : Shape → ℕ} {g : Shape} {es : List Event} {states : List S} {l : ChannelsState M} {c : Counts}
+    {e : Event} {o : Outcome S M} (plays : Plays r bound g es states l c e o) where
   abbrev w : Net S M
   w = net_after r g es
 
   abbrev v : ℕ
   v = event_node e
 
-  kept : IsKept r g es states q c
+  kept : IsKept r g es states l c
   kept = plays.kept
 
   pub low : 1 ≤ event_node e
@@ -255,19 +278,22 @@ module _ {S M : Type 0} {r : Rules S M} {bound : Shape → ℕ} {g : Shape} {es 
       (after_balanced r (network_of g) (graph_wired g kept.graph) (es ++ e ∷ []) next next_after) in
       omega (arith, b)
 
-  pub lead : LeadToQueues q (ports_of g.keys v)
-  lead = leads r g kept.graph kept.shows.queues v low high
-
-  pub sends_on : All (λ (s : ℕ × M). s.0 < length (ports_of g.keys v)) o.sends
-  sends_on = all_on o.sends on_ports
+  -- they go out on ports of its node
+  pub go_out : GoOut l v o.sends
+  go_out = all_on o.sends on_ports
     where
-      all_on : (ss : Outgoing M) → are_on_ports r (network_of g) v ss ≡ true → All (λ (s : ℕ × M). s.0 < length (ports_of g.keys v)) ss
-      all_on [] t = All-nil (λ (s : ℕ × M). s.0 < length (ports_of g.keys v))
+      all_on : (ss : Outgoing M) → are_on_ports r (network_of g) v ss ≡ true → All (λ (s : ℕ × M). HasQueue l v s.0) ss
+      all_on [] t = All-nil (λ (s : ℕ × M). HasQueue l v s.0)
       all_on (s ∷ ss) t =
           let h = and_parts _ _ t in
-          All-cons (λ (s : ℕ × M). s.0 < length (ports_of g.keys v)) s ss (ltb-true s.0 _ h.0) (all_on ss h.1)
+          All-cons (λ (s : ℕ × M). HasQueue l v s.0) s ss
+          (port_queue kept.shows.queues.ports v s.0 (record { some = low; node = high; port = ltb-true s.0 _ h.0 })) (all_on ss h.1)
 
-  shows : Shows r g w states q c
+  -- its node has queues
+  pub node_queues : v < length l.queues
+  node_queues = let n = kept.shows.queues.ports.count in omega (arith, n, high)
+
+  shows : Shows r g w states l c
   shows = kept.shows
 
   -- what may be counted
@@ -276,9 +302,6 @@ module _ {S M : Type 0} {r : Rules S M} {bound : Shape → ℕ} {g : Shape} {es 
       let a = shows.sent.each k lt in
       let b : w.sent k ≤ in_all r w.sent = term_le r.kinds k w.sent lt in
       omega (arith, a, b, next_sent, next_few)
-
-  pub fits_total : c.queued + length o.sends < 2 ^ 64
-  fits_total = let a = shows.queued in omega (arith, a, next_sent, next_few)
 
   -- the message of an event that takes one
   of_take : (P : Event → Type 0) → ((u p : ℕ) (m : M) (ms : List M) → At (network_of g) u p → w.queue u p ≡ m ∷ ms → P (events.Take u p)) →
@@ -342,68 +365,100 @@ module _ {S M : Type 0} {r : Rules S M} {bound : Shape → ℕ} {g : Shape} {es 
         let b : w.consumed k ≤ in_all r w.consumed = term_le r.kinds k w.consumed lt in
         omega (arith, a, b, next_consumed, one t, next_balance, next_few)
 
-    pub some_queued : Consumes (defers_at r w e) e → 0 < c'.queued
-    some_queued t =
-        let a = shows.queued in
-        let b = s.queued in
-        omega (arith, a, b, next_sent, next_consumed, one t, next_balance)
-
     pub kinds_still : length c'.consumed.items ≡ r.kinds
     kinds_still = ap (λ (l : List ℕ). length l) s.consumed ∙ shows.consumed.many
 
-  -- once they are out
-  abbrev q1 : Lists M
-  q1 = push_all (ports_of g.keys v) o.sends q
-
-  out : AreQueues g (send_all r (network_of g) v o.sends w).queue q1
-  out = pushed r g kept.graph v low high o.sends w q on_ports shows.queues
-
-  still_first : (u p : ℕ) → u ≡ v → At (network_of g) u p → queue_at q1 u p ≡ w.queue u p
-  still_first u p z at = out.queue u p at ∙ rw z (own_kept r g kept.graph v p low high o.sends w)
-
-  pub waits : WaitsAt e q1
-  waits = go e refl plays.lawful
+  -- where it takes a message one waits
+  pub waits : WaitsAt e l
+  waits = go e plays.lawful
     where
-      go : (x : Event) → event_node x ≡ v → is_lawful r (network_of g) w x ≡ true → WaitsAt x q1
-      go (events.Wake u) z h = tt
-      go (events.Take u p) z h =
+      go : (x : Event) → is_lawful r (network_of g) w x ≡ true → WaitsAt x l
+      go (events.Wake u) h = tt
+      go (events.Take u p) h =
           let b = and_parts _ _ h in
-          let at = at_of (network_of g) u p b.0 in
-          (has_queue g out u p at, subst (λ (l : List M). 0 < length l) (sym (still_first u p z at)) (ltb-true 0 _ b.1))
+          let at = at_of (network_of g) u p b.0 in (
+            port_queue kept.shows.queues.ports u p at,
+            subst (λ (ms : List M). 0 < length ms) (sym (kept.shows.queues.queue u p at)) (ltb-true 0 _ b.1),
+          )
 
-  -- at the end
-  module _ (c' d : Counts) (q2 : Lists M) (s : CountsSends r o.sends c c') (t : TakesIn r (defers_at r w e) e q1 q2 c' d) where
-    -- the node's own change touches no queue
-    as_reacted : (x : Net S M) (a b : ℕ) → (send_all r (network_of g) v o.sends x).queue a b ≡ (reacted r (network_of g) v o x).queue a b
-    as_reacted x a b = alike r g kept.graph v a b o.sends x (record x { node = put x.node v o.state }) refl
-
+  -- once the message is taken
+  module _ (c' d : Counts) (m : ChannelsState M) (s : CountsSends r o.sends c c') (t : TakesIn r (defers_at r w e) e l m c' d) where
     -- what the event has taken, if anything
     takes : (P : Event → Type 0) →
-        ((u p : ℕ) (m : M) (ms : List M) → u ≡ v → At (network_of g) u p → w.queue u p ≡ m ∷ ms →
-        TakesFirst r (r.defers (w.node u) (Deliver p m)) u p m ms q1 q2 c' d → P (events.Take u p)) →
-        ((u : ℕ) → q2 ≡ q1 → d ≡ c' → P (events.Wake u)) →
+        ((u p : ℕ) (x : M) (xs : List M) → u ≡ v → At (network_of g) u p → w.queue u p ≡ x ∷ xs →
+        TakesFirst r (r.defers (w.node u) (Deliver p x)) u p x l m c' d → P (events.Take u p)) →
+        ((u : ℕ) → m ≡ l → d ≡ c' → P (events.Wake u)) →
         P e
     takes P f k =
-        of_take (λ y. event_node y ≡ v → TakesIn r (defers_at r w y) y q1 q2 c' d → P y)
-        (λ u p m ms at l z x.
-        f u p m ms z at l (subst (λ b. TakesFirst r b u p m ms q1 q2 c' d) (later_so u p m ms l) (x m ms (still_first u p z at ∙ l))))
-        (λ u z x. k u x.0 x.1) e plays.lawful refl t
+        of_take (λ y. event_node y ≡ v → TakesIn r (defers_at r w y) y l m c' d → P y)
+        (λ u p x xs at is z y.
+        f u p x xs z at is
+        (subst (λ b. TakesFirst r b u p x l m c' d) (later_so u p x xs is) (y x xs (kept.shows.queues.queue u p at ∙ is))))
+        (λ u z y. k u y.0 y.1) e plays.lawful refl t
 
-    new_queues : AreQueues g next.queue q2
-    new_queues =
-        takes (λ x. AreQueues g (reacted r (network_of g) v o (taken_net r g x w)).queue q2)
-        (λ u p m ms z at l taken.
-        subst (λ x. AreQueues g (reacted r (network_of g) v o (first_taken r g u p x w)).queue q2) (sym l)
-        (subst (AreQueues g (reacted r (network_of g) v o (take_first r (network_of g) u p m ms w)).queue) (sym taken.queues)
-        (shown_as g (changed g out u p at _ (left_of (r.defers (w.node u) (Deliver p m)) m ms) refl) (λ a b k. swap u p m ms z at a b))))
-        (λ u x y. subst (AreQueues g (reacted r (network_of g) v o w).queue) (sym x) (shown_as g out (λ a b k. as_reacted w a b)))
+    pub taken_ports : SamePorts l m
+    taken_ports = takes (λ x. SamePorts l m) (λ u p x xs z at is taken. taken.queues.ports) (λ u x y. rw x (same_alike l))
+
+    pub taken_for : IsFor g m
+    taken_for = same_for g l m taken_ports kept.shows.queues.ports
+
+    pub taken_some : IsForSome m
+    taken_some = (g, taken_for)
+
+    pub taken_start : (n : ℕ) → n ≡ first_queue l v → n ≡ first_queue m v
+    taken_start n z = z ∙ sym (same_first l m taken_ports v)
+
+    pub taken_out : GoOut m v o.sends
+    taken_out i x lt = (taken_ports.queues _ _).0 (go_out i x lt)
+
+    -- taking needs no room
+    pub taken_room : HasRoomFor v o.sends l → HasRoomFor v o.sends m
+    taken_room room =
+        takes (λ x. HasRoomFor v o.sends m)
+        (λ u p x xs z at is taken.
+        room_kept g l m v o.sends kept.shows.queues.ports taken.queues.ports
+        (rooms_kept l m u p _ taken.queues (first_room (r.defers (w.node u) (Deliver p x)) (state_at l u p))) room)
+        (λ u x y. rw x room)
+
+    taken_queues : AreQueues g (taken_net r g e w).queue m
+    taken_queues =
+        takes (λ x. AreQueues g (taken_net r g x w).queue m)
+        (λ u p x xs z at is taken.
+        subst (λ y. AreQueues g (first_taken r g u p y w).queue m) (sym is)
+        (changed g l m u p _ (left_of (r.defers (w.node u) (Deliver p x)) x xs) kept.shows.queues taken.queues
+        (first_left (r.defers (w.node u) (Deliver p x)) (state_at l u p) x xs (kept.shows.queues.queue u p at ∙ is))))
+        (λ u x y. rw x kept.shows.queues)
+
+    taken_total : total_of m + consumes e ≡ total_of l
+    taken_total =
+        takes (λ x. total_of m + consumes x ≡ total_of l)
+        (λ u p x xs z at is taken.
+        let all = taken.queues.total in
+        let was : queue_at l u p ≡ x ∷ xs = kept.shows.queues.queue u p at ∙ is in
+        let now = one_fewer (r.defers (w.node u) (Deliver p x)) (state_at l u p) x xs was in
+        ap (λ b. total_of m + cond b 0 1) (later_so u p x xs is) ∙
+        omega (arith, all, now))
+        (λ u x y. let same = ap (λ (k : ChannelsState M). total_of k) x in omega (arith, same))
       where
-        swap : (u p : ℕ) (m : M) (ms : List M) → u ≡ v → At (network_of g) u p → (a b : ℕ) →
-            put_at (send_all r (network_of g) v o.sends w).queue u p (left_of (r.defers (w.node u) (Deliver p m)) m ms) a b ≡
-            (reacted r (network_of g) v o (take_first r (network_of g) u p m ms w)).queue a b
-        swap u p m ms z at a b =
-            rw z (taken_after r g kept.graph v p m ms o.sends w (subst (λ y. At (network_of g) y p) z at) a b)
-            ∙ as_reacted (take_first r (network_of g) u p m ms w) a b
+        one_fewer : (b : Bool) (q : QueueState M) (x : M) (xs : List M) → q.list ≡ x ∷ xs →
+            length (after_first b q).list + cond b 0 1 ≡ length q.list
+        one_fewer true q x xs z = rw z (omega (arith, length-append xs (x ∷ [])))
+        one_fewer false q x xs z = rw z (omega arith)
+
+    -- all that waits, and what goes out, may be counted
+    pub fits_total : total_of m + length o.sends < 2 ^ 64
+    fits_total = let a = shows.queued in omega (arith, a, taken_total, next_sent, next_few)
+
+  -- at the end
+  module _ (c' d : Counts) (m n : ChannelsState M) (s : CountsSends r o.sends c c') (t : TakesIn r (defers_at r w e) e l m c' d)
+      (out : (waits : ℕ → ℕ → List M) → AreQueues g waits m → AreQueues g (with_all_sent (network_of g) v o.sends waits) n)
+      (total : total_of n ≡ total_of m + length o.sends) where
+    new_queues : AreQueues g next.queue n
+    new_queues =
+        subst (λ (f : ℕ → ℕ → List M). AreQueues g f n)
+        (sym (machine_sends r (network_of g) v o.sends
+        (record (taken_net r g e w) { node = put (taken_net r g e w).node v o.state })))
+        (out (taken_net r g e w).queue (taken_queues c' d m s t))
 
     sent_from : d.sent.items ≡ c'.sent.items → AreCounts r.kinds next.sent d.sent.items
     sent_from z = record {
@@ -419,21 +474,21 @@ module _ {S M : Type 0} {r : Rules S M} {bound : Shape → ℕ} {g : Shape} {es 
 
     new_sent : AreCounts r.kinds next.sent d.sent.items
     new_sent =
-        takes (λ x. AreCounts r.kinds next.sent d.sent.items) (λ u p m ms z at l taken. sent_from taken.counts.sent)
+        takes c' d m s t (λ x. AreCounts r.kinds next.sent d.sent.items) (λ u p x xs z at is taken. sent_from taken.counts.sent)
         (λ u x y. sent_from (ap (λ (n : Counts). n.sent.items) y))
 
     new_consumed : AreCounts r.kinds next.consumed d.consumed.items
     new_consumed =
-        takes (λ x. AreCounts r.kinds (reacted r (network_of g) v o (taken_net r g x w)).consumed d.consumed.items)
-        (λ u p m ms z at l taken.
-        subst (λ x. AreCounts r.kinds (reacted r (network_of g) v o (first_taken r g u p x w)).consumed d.consumed.items) (sym l) (record {
+        takes c' d m s t (λ x. AreCounts r.kinds (reacted r (network_of g) v o (taken_net r g x w)).consumed d.consumed.items)
+        (λ u p x xs z at is taken.
+        subst (λ y. AreCounts r.kinds (reacted r (network_of g) v o (first_taken r g u p y w)).consumed d.consumed.items) (sym is) (record {
           many = taken.counts.kinds ∙ kinds_still c' s;
           each = λ k lt.
               let a = taken.counts.consumed k lt in
               let b = ap (λ (y : List ℕ). get_or y k 0) s.consumed in
               let n = shows.consumed.each k lt in
-              let f = ap (λ (y : ℕ → ℕ). y k) (consumed_now r (network_of g) v o (take_first r (network_of g) u p m ms w)) in
-              let h = take_counts r (network_of g) u p m ms w k in
+              let f = ap (λ (y : ℕ → ℕ). y k) (consumed_now r (network_of g) v o (take_first r (network_of g) u p x xs w)) in
+              let h = take_counts r (network_of g) u p x xs w k in
               omega (arith, a, b, n, f, h);
         }))
         (λ u x y. record {
@@ -446,28 +501,24 @@ module _ {S M : Type 0} {r : Rules S M} {bound : Shape → ℕ} {g : Shape} {es 
               omega (arith, a, b, n, f);
         })
 
-    new_queued : d.queued + in_all r next.consumed ≡ in_all r next.sent
+    new_queued : total_of n + in_all r next.consumed ≡ in_all r next.sent
     new_queued =
         let a = shows.queued in
-        let b = s.queued in
-        let x =
-        takes (λ x. d.queued + consumes x ≡ c'.queued)
-        (λ u p m ms z at l taken. ap (λ b. d.queued + cond b 0 1) (later_so u p m ms l) ∙ taken.counts.queued)
-        (λ u x y. let n = ap (λ (n : Counts). n.queued) y in omega (arith, n)) in
-        omega (arith, a, b, x, next_sent, next_consumed)
+        let b = taken_total c' d m s t in
+        omega (arith, a, b, total, next_sent, next_consumed)
 
     new_deferred : d.deferred ≡ next.deferred
     new_deferred =
         let a = shows.deferred in
         let b = s.deferred in
         let x =
-        takes (λ x. d.deferred ≡ c'.deferred + puts_off x)
-        (λ u p m ms z at l taken. taken.counts.deferred ∙ ap (λ b. c'.deferred + cond b 1 0) (sym (later_so u p m ms l)))
+        takes c' d m s t (λ x. d.deferred ≡ c'.deferred + puts_off x)
+        (λ u p x xs z at is taken. taken.counts.deferred ∙ ap (λ b. c'.deferred + cond b 1 0) (sym (later_so u p x xs is)))
         (λ u x y. let n = ap (λ (n : Counts). n.deferred) y in omega (arith, n)) in
         omega (arith, a, b, x, next_deferred)
 
-    new_states : (l : List S) → l ≡ set states (v - 1) o.state → AreNodes r g next.node l
-    new_states l z = rw z (record {
+    new_states : (ns : List S) → ns ≡ set states (v - 1) o.state → AreNodes r g next.node ns
+    new_states ns z = rw z (record {
       many = length-set states (v - 1) o.state ∙ shows.states.many;
       each = λ u lo hi. ⊎_elim (here u) (there u lo hi) (cases_eq u v);
     })
@@ -489,12 +540,12 @@ module _ {S M : Type 0} {r : Rules S M} {bound : Shape → ℕ} {g : Shape} {es 
             ∙ shows.states.each u lo hi ∙ sym (now u ∙ put_other w.node v u o.state ne)
 
     -- the fields are those of the net after the event
-    pub keeps : (l : List S) → l ≡ set states (v - 1) o.state → IsKept r g (es ++ e ∷ []) l q2 d
-    keeps l z = record {
+    pub keeps : (ns : List S) → ns ≡ set states (v - 1) o.state → IsKept r g (es ++ e ∷ []) ns n d
+    keeps ns z = record {
       graph = kept.graph;
       run = (next, next_after);
       shows = rw next_is (record {
-        states = new_states l z;
+        states = new_states ns z;
         queues = new_queues;
         sent = new_sent;
         consumed = new_consumed;

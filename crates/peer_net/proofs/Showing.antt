@@ -1,119 +1,113 @@
--- Queues of a net as the fields show them: one changes, messages go out, and in which order a message is taken.
-use Rattle.std.proofs.Common.{◌≡◌, ◌≢◌, ℕ, ◌<◌, ◌≤◌, true, List, [], ◌∷◌, ◌++◌, sym, ◌∙◌, ap, subst, ⊎_elim, arith, ltb-true}
-use Rattle.std.proofs.lemmas.Bool.{and_parts, cases_eq}
-use Rattle.ghs_graph.specs.Graph.{Shape, IsGraph}
-use Rattle.ghs_graph.specs.Ports.{ports_of}
-use Rattle.peer_network.specs.Network.{network_of, far, far_port, At}
-use Rattle.peer_network.proofs.lemmas.Graphs.{graph_wired}
-use Rattle.peer_network.proofs.lemmas.Updates.{put_at_hit, put_at_miss, put_at_same, one_place}
-use Rattle.peer_network.proofs.lemmas.Wired.{IsWired}
-use Rattle.peer_network.proofs.lemmas.Wires.{no_loop}
-use Rattle.peer_machine.specs.Rules.{Rules, Outgoing}
-use Rattle.peer_machine.specs.declared.work.Work.TheVariants.{Deliver}
-use Rattle.peer_machine.specs.Net.{Net, left_of, put_at, send, send_all, take_first, are_on_ports}
-use Rattle.peer_machine.proofs.lemmas.Sends.{queue_kept}
-use Rattle.peer_net.specs.Queues.{Lists, HasQueue, queue_at, with_queue, LeadToQueues, push_one, push_all}
-use Rattle.peer_net.specs.Kept.{AreQueues}
-use Rattle.peer_net.proofs.Lists.{count_kept, width_kept, queue_here, queue_there}
+-- Queues of a net as the fields show them: one changes, messages go out.
+use Rattle.std.proofs.Common.{◌≡◌, ℕ, true, false, Bool, ◌+◌, ◌≤◌, ◌<◌, List, [], ◌∷◌, ◌++◌, length, get_or, take, drop, refl, sym, ◌∙◌, ap, subst, ⊎_elim, arith, length-append}
+use Rattle.std.proofs.lemmas.List.{take_more, take_all}
+use Rattle.ghs_graph.specs.Graph.{Shape}
+use Rattle.peer_network.specs.Network.{Network, network_of, At}
+use Rattle.peer_network.proofs.lemmas.Updates.{put_at_miss, put_at_same, one_place}
+use Rattle.peer_channels.specs.Queue.{QueueState, pushed}
+use Rattle.peer_channels.specs.Channels.{ChannelsState, HasQueue, IsPort, IsFor, SamePorts, Changes, GoOut, HasRoomFor, Outgoing, port_of, queue_at, state_at, total_of, destination_of}
+use Rattle.peer_channels.proofs.lemmas.Ports.{far_port_is, same_alike, same_for, same_then}
+use Rattle.peer_channels.proofs.lemmas.Rooms.{at_port, port_queue, leads_to, room_after}
+use Rattle.peer_machine.specs.Rules.{Rules}
+use Rattle.peer_machine.specs.Net.{Net, left_of, put_at, send_all}
+use Rattle.peer_net.specs.Queues.{AreQueues, after_first, with_sent, with_all_sent}
 
-module _ {M : Type 0} (g : Shape) where
-  -- a port of the graph has a queue
-  pub has_queue : {f : ℕ → ℕ → List M} {q : Lists M} → AreQueues g f q → (v p : ℕ) → At (network_of g) v p → HasQueue q v p
-  has_queue it v p at =
-      let n = it.count in
-      let hi = at.node in
-      record { node = omega (arith, n, hi); port = subst (λ x. p < x) (sym (it.ports v at.some at.node)) at.port }
-
+module _ {M : Type 0} where
   -- one queue changes
-  pub changed : {f : ℕ → ℕ → List M} {q : Lists M} → AreQueues g f q → (v p : ℕ) → At (network_of g) v p → (a b : List M) → a ≡ b →
-      AreQueues g (put_at f v p b) (with_queue q v p a)
-  changed {f} {q} it v p at a b e = record {
-    count = count_kept q v p a ∙ it.count;
-    ports = λ u lo hi. width_kept q v p u a (has_queue it v p at).node ∙ it.ports u lo hi;
-    queue = λ u r h. ⊎_elim (hit u r) (miss u r h) (one_place v p u r);
+  pub changed : (g : Shape) {waits : ℕ → ℕ → List M} (l l' : ChannelsState M) (v p : ℕ) (q : QueueState M) (ms : List M) → AreQueues g waits l →
+      Changes l l' v p q → q.list ≡ ms → AreQueues g (put_at waits v p ms) l'
+  changed g {waits} l l' v p q ms it c e = record {
+    ports = same_for g l l' c.ports it.ports;
+    queue = λ u r at. ⊎_elim (hit u r) (miss u r at)
+        (one_place v p u r);
   }
     where
-      hit : (u r : ℕ) → (u ≡ v) × (r ≡ p) → queue_at (with_queue q v p a) u r ≡ put_at f v p b u r
-      hit u r z = rw (z.0, z.1) (queue_here q v p a (has_queue it v p at) ∙ e ∙ sym (put_at_same f v p b))
+      hit : (u r : ℕ) → (u ≡ v) × (r ≡ p) → queue_at l' u r ≡ put_at waits v p ms u r
+      hit u r z = rw (z.0, z.1) (ap (λ (x : QueueState M). x.list) c.here ∙ e ∙ sym (put_at_same waits v p ms))
 
-      miss : (u r : ℕ) → At (network_of g) u r → ((u ≡ v) × (r ≡ p) → ⊥) → queue_at (with_queue q v p a) u r ≡ put_at f v p b u r
-      miss u r h ne = queue_there q v p u r a (has_queue it v p at) ne ∙ it.queue u r h ∙ sym (put_at_miss f v p u r b ne)
+      miss : (u r : ℕ) → At (network_of g) u r → ((u ≡ v) × (r ≡ p) → ⊥) → queue_at l' u r ≡ put_at waits v p ms u r
+      miss u r at ne =
+          ap (λ (x : QueueState M). x.list) (c.elsewhere u r (port_queue it.ports u r at) ne) ∙ it.queue u r at
+          ∙ sym (put_at_miss waits v p u r ms ne)
 
-  -- queues that show one thing at each port show what equals it
-  pub shown_as : {f h : ℕ → ℕ → List M} {q : Lists M} → AreQueues g f q → ((v p : ℕ) → At (network_of g) v p → f v p ≡ h v p) → AreQueues g h q
-  shown_as it e = record { count = it.count; ports = it.ports; queue = λ v p at. it.queue v p at ∙ e v p at }
+  -- the first message is taken
+  pub first_left : (later : Bool) (q : QueueState M) (m : M) (ms : List M) → q.list ≡ m ∷ ms → (after_first later q).list ≡ left_of later m ms
+  first_left true q m ms e = rw e refl
+  first_left false q m ms e = rw e refl
 
-module _ {S M : Type 0} (r : Rules S M) (g : Shape) (ok : IsGraph g) where
-  wired : IsWired (network_of g)
-  wired = graph_wired g ok
-
-  -- each port of a node leads to a queue
-  pub leads : {f : ℕ → ℕ → List M} {q : Lists M} → AreQueues g f q → (v : ℕ) → 1 ≤ v → v ≤ g.nodes → LeadToQueues q (ports_of g.keys v)
-  leads it v lo hi i lt = has_queue g it _ _ (wired.there v i (record { some = lo; node = hi; port = lt }))
-
-  -- messages go out
-  pub pushed : (v : ℕ) → 1 ≤ v → v ≤ g.nodes → (ss : Outgoing M) (w : Net S M) (q : Lists M) → are_on_ports r (network_of g) v ss ≡ true →
-      AreQueues g w.queue q → AreQueues g (send_all r (network_of g) v ss w).queue (push_all (ports_of g.keys v) ss q)
-  pushed v lo hi [] w q t it = it
-  pushed v lo hi (s ∷ ss) w q t it =
-      let h = and_parts _ _ t in
-      let at : At (network_of g) v s.0 = record { some = lo; node = hi; port = ltb-true s.0 _ h.0 } in
-      let to = wired.there v s.0 at in
-      pushed v lo hi ss (send r (network_of g) v w s) (push_one (ports_of g.keys v) q s) h.1
-      (changed g it _ _ to _ _ (ap (λ (x : List M). x ++ s.1 ∷ []) (it.queue _ _ to)))
-
-  -- what goes out depends, at each queue, on that queue alone
-  pub alike : (v a b : ℕ) (ss : Outgoing M) (w x : Net S M) → w.queue a b ≡ x.queue a b →
-      (send_all r (network_of g) v ss w).queue a b ≡ (send_all r (network_of g) v ss x).queue a b
-  alike v a b [] w x e = e
-  alike v a b (s ∷ ss) w x e =
-      alike v a b ss (send r (network_of g) v w s) (send r (network_of g) v x s)
-      (⊎_elim hit miss (one_place (far (network_of g) v s.0) (far_port (network_of g) v s.0) a b))
+  pub first_room : (later : Bool) (q : QueueState M) → q.room ≤ (after_first later q).room
+  first_room true q = omega arith
+  first_room false q = go q.list
     where
-      hit : (a ≡ (far (network_of g) v s.0)) × (b ≡ (far_port (network_of g) v s.0)) →
-          (send r (network_of g) v w s).queue a b ≡ (send r (network_of g) v x s).queue a b
-      hit z =
-          put_at_hit w.queue (far (network_of g) v s.0) (far_port (network_of g) v s.0) a b _ z.0 z.1
-          ∙ ap (λ (y : List M). y ++ s.1 ∷ [])
-          (ap (w.queue (far (network_of g) v s.0)) (sym z.1) ∙ ap (λ k. w.queue k b) (sym z.0) ∙ e ∙ ap (λ k. x.queue k b) z.0
-          ∙ ap (x.queue (far (network_of g) v s.0)) z.1)
-          ∙ sym (put_at_hit x.queue (far (network_of g) v s.0) (far_port (network_of g) v s.0) a b _ z.0 z.1)
+      go : (ms : List M) → q.room ≤ (after_first false (record { list = ms; room = q.room })).room
+      go [] = omega arith
+      go (m ∷ ms) = omega arith
 
-      miss : ((a ≡ (far (network_of g) v s.0)) × (b ≡ (far_port (network_of g) v s.0)) → ⊥) →
-          (send r (network_of g) v w s).queue a b ≡ (send r (network_of g) v x s).queue a b
-      miss ne =
-          put_at_miss w.queue (far (network_of g) v s.0) (far_port (network_of g) v s.0) a b _ ne ∙ e
-          ∙ sym (put_at_miss x.queue (far (network_of g) v s.0) (far_port (network_of g) v s.0) a b _ ne)
+  -- messages go out one after another
+  pub sent_append : (g : Network) (v : ℕ) (a b : Outgoing M) (waits : ℕ → ℕ → List M) →
+      with_all_sent g v (a ++ b) waits ≡ with_all_sent g v b (with_all_sent g v a waits)
+  sent_append g v [] b waits = refl
+  sent_append g v (s ∷ a) b waits = sent_append g v a b (with_sent g v waits s)
 
-  -- none of a node's messages comes to the node itself
-  pub own_kept : (v b : ℕ) → 1 ≤ v → v ≤ g.nodes → (ss : Outgoing M) (w : Net S M) →
-      (send_all r (network_of g) v ss w).queue v b ≡ w.queue v b
-  own_kept v b lo hi ss w = queue_kept r (network_of g) v v b ss w (λ i e h. no_loop (network_of g) wired v i lo hi e)
+  -- what holds once the first i messages are out
+  pub record Sent (g : Shape) (v : ℕ) (ss : Outgoing M) (i : ℕ) (old l : ChannelsState M) : Type 0 where
+    pub ports : SamePorts old l
+    pub queues : (waits : ℕ → ℕ → List M) → AreQueues g waits old → AreQueues g (with_all_sent (network_of g) v (take i ss) waits) l
+    pub room : HasRoomFor v (drop i ss) l
+    pub total : total_of l ≡ total_of old + length (take i ss)
 
-  -- a message is taken once those of the reaction are out: it is as if it had been taken before
-  pub taken_after : (v p : ℕ) (m : M) (ms : List M) (ss : Outgoing M) (w : Net S M) → At (network_of g) v p → (a b : ℕ) →
-      put_at (send_all r (network_of g) v ss w).queue v p (left_of (r.defers (w.node v) (Deliver p m)) m ms) a b ≡
-      (send_all r (network_of g) v ss (take_first r (network_of g) v p m ms w)).queue a b
-  taken_after v p m ms ss w at a b = ⊎_elim own others (cases_eq a v)
+  pub none_sent : (g : Shape) (v : ℕ) (ss : Outgoing M) (l : ChannelsState M) → HasRoomFor v ss l → Sent g v ss 0 l l
+  none_sent g v ss l room = record { ports = same_alike l; queues = λ waits it. it; room = room; total = omega arith }
+
+  pub one_sent : (g : Shape) (v : ℕ) (ss : Outgoing M) (i : ℕ) (d x : ℕ × M) (old l l' : ChannelsState M) → IsFor g old → GoOut old v ss →
+      i < length ss → x ≡ get_or ss i d → Sent g v ss i old l →
+      Changes l l' (destination_of l v x.0).0 (destination_of l v x.0).1
+      (pushed (state_at l (destination_of l v x.0).0 (destination_of l v x.0).1) x.1) →
+      Sent g v ss (i + 1) old l'
+  one_sent g v ss i d x old l l' for out more is h c = record {
+    ports = same_then old l l' h.ports c.ports;
+    queues = queues;
+    room = room_after g v l l' ss i d x (same_for g old l h.ports for) more is port h.room there;
+    total =
+        let t = there.total in
+        let before = h.total in
+        let one : length (queue_at l (port_of g v x.0).far (port_of g v x.0).far_port ++ x.1 ∷ []) ≡
+        length (queue_at l (port_of g v x.0).far (port_of g v x.0).far_port) + 1 = length-append _ _ in
+        let longer : length (take i ss ++ x ∷ []) ≡ length (take i ss) + 1 = length-append (take i ss) (x ∷ []) in
+        rw next (omega (arith, t, before, one, longer));
+  }
     where
-      left : List M
-      left = left_of (r.defers (w.node v) (Deliver p m)) m ms
+      port : IsPort g v x.0
+      port = (for.queues v x.0).0 (let P : ℕ × M → Type 0 = λ y. HasQueue old v y.0 in subst P (sym is) (out i d more))
 
-      own : a ≡ v → put_at (send_all r (network_of g) v ss w).queue v p left a b ≡
-          (send_all r (network_of g) v ss (take_first r (network_of g) v p m ms w)).queue a b
-      own e = rw e (⊎_elim here there (one_place v p v b) ∙ sym (own_kept v b at.some at.node ss (take_first r (network_of g) v p m ms w)))
+      there : let to = port_of g v x.0 in Changes l l' to.far to.far_port (pushed (state_at l to.far to.far_port) x.1)
+      there =
+          let P : ℕ × ℕ → Type 0 = λ t. Changes l l' t.0 t.1 (pushed (state_at l t.0 t.1) x.1) in
+          subst P (leads_to g old l for h.ports v x.0 port) c
+
+      next : take (i + 1) ss ≡ take i ss ++ x ∷ []
+      next = take_more ss i d more ∙ ap (λ (y : ℕ × M). take i ss ++ y ∷ []) (sym is)
+
+      queues : (waits : ℕ → ℕ → List M) → AreQueues g waits old → AreQueues g (with_all_sent (network_of g) v (take (i + 1) ss) waits) l'
+      queues waits it =
+          let before = h.queues waits it in
+          let now = changed g l l' (port_of g v x.0).far (port_of g v x.0).far_port _
+          (with_all_sent (network_of g) v (take i ss) waits (port_of g v x.0).far (port_of g v x.0).far_port ++ x.1 ∷ []) before there
+          (ap (λ (y : List M). y ++ x.1 ∷ []) (before.queue _ _ (at_port far_is))) in
+          rw (next, sent_append (network_of g) v (take i ss) (x ∷ []) waits) now
         where
-          here : (v ≡ v) × (b ≡ p) → put_at (send_all r (network_of g) v ss w).queue v p left v b ≡ (take_first r (network_of g) v p m ms w).queue v b
-          here z = put_at_hit (send_all r (network_of g) v ss w).queue v p v b left z.0 z.1 ∙ sym (put_at_hit w.queue v p v b left z.0 z.1)
+          far_is : IsPort g (port_of g v x.0).far (port_of g v x.0).far_port
+          far_is = far_port_is g for.graph v x.0 port.port
 
-          there : ((v ≡ v) × (b ≡ p) → ⊥) → put_at (send_all r (network_of g) v ss w).queue v p left v b ≡
-              (take_first r (network_of g) v p m ms w).queue v b
-          there ne =
-              put_at_miss (send_all r (network_of g) v ss w).queue v p v b left ne
-              ∙ own_kept v b at.some at.node ss w ∙ sym (put_at_miss w.queue v p v b left ne)
+  -- all of them
+  pub all_sent : (g : Shape) (v : ℕ) (ss : Outgoing M) (i : ℕ) (old l : ChannelsState M) → Sent g v ss i old l → length ss ≤ i →
+      (waits : ℕ → ℕ → List M) → AreQueues g waits old → AreQueues g (with_all_sent (network_of g) v ss waits) l
+  all_sent g v ss i old l h le waits it =
+      let P : Outgoing M → Type 0 = λ xs. AreQueues g (with_all_sent (network_of g) v xs waits) l in
+      subst P (take_all i ss le) (h.queues waits it)
 
-      others : a ≢ v → put_at (send_all r (network_of g) v ss w).queue v p left a b ≡
-          (send_all r (network_of g) v ss (take_first r (network_of g) v p m ms w)).queue a b
-      others ne =
-          put_at_miss (send_all r (network_of g) v ss w).queue v p a b left (λ z. ne z.0) ∙ alike v a b ss w (take_first r (network_of g) v p m ms w)
-          (sym (put_at_miss w.queue v p a b left (λ z. ne z.0)))
+-- the machine sends so
+pub machine_sends : {S M : Type 0} (r : Rules S M) (g : Network) (v : ℕ) (ss : Outgoing M) (w : Net S M) →
+    (send_all r g v ss w).queue ≡ with_all_sent g v ss w.queue
+machine_sends r g v [] w = refl
+machine_sends r g v (s ∷ ss) w = machine_sends r g v ss _

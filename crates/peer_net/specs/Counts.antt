@@ -8,7 +8,6 @@ use Rattle.peer_net.specs.declared.counts.Counts.{Counts}
 pub record AreNone (kinds : ℕ) (c : Counts) : Type 0 where
   pub sent : c.sent.items ≡ replicate kinds 0
   pub consumed : c.consumed.items ≡ replicate kinds 0
-  pub queued : c.queued ≡ 0
   pub deferred : c.deferred ≡ 0
 
 -- messages are counted as sent, by their kinds
@@ -16,7 +15,6 @@ pub record CountsSends {S M : Type 0} (r : Rules S M) (ss : Outgoing M) (old new
   pub kinds : length new.sent.items ≡ length old.sent.items
   pub sent : (k : ℕ) → k < r.kinds → slice_index new.sent.items k ≡ slice_index old.sent.items k + of_kind r k (messages ss)
   pub consumed : new.consumed.items ≡ old.consumed.items
-  pub queued : new.queued ≡ old.queued + length ss
   pub deferred : new.deferred ≡ old.deferred
 
 -- a message that is taken is counted: as deferred, or as consumed, by its kind
@@ -25,5 +23,4 @@ pub record CountsTake {S M : Type 0} (r : Rules S M) (later : Bool) (m : M) (old
   pub kinds : length new.consumed.items ≡ length old.consumed.items
   pub consumed : (k : ℕ) → k < r.kinds →
       slice_index new.consumed.items k ≡ slice_index old.consumed.items k + (if later then 0 else if r.kind_of m == k then 1 else 0)
-  pub queued : new.queued + (if later then 0 else 1) ≡ old.queued
   pub deferred : new.deferred ≡ old.deferred + (if later then 1 else 0)

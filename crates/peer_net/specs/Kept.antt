@@ -3,19 +3,14 @@ use Rattle.std.specs.Prelude.{◌≡◌, ℕ, ◌+◌, ◌-◌, ◌≤◌, ◌<�
 use Rattle.ghs_graph.specs.Graph.{Shape, IsGraph}
 use Rattle.ghs_graph.specs.Ports.{ports_of}
 use Rattle.peer_network.specs.declared.event.Event.{Event}
-use Rattle.peer_network.specs.Network.{network_of, At}
+use Rattle.peer_network.specs.Network.{network_of}
+use Rattle.peer_channels.specs.Channels.{ChannelsState, total_of}
 use Rattle.peer_machine.specs.Rules.{Rules}
 use Rattle.peer_machine.specs.Net.{Net}
 use Rattle.peer_machine.specs.Run.{IsRun, net_after}
 use Rattle.peer_machine.specs.Ledger.{in_all}
 use Rattle.peer_net.specs.declared.counts.Counts.{Counts}
-use Rattle.peer_net.specs.Queues.{Lists, row_at, queue_at}
-
--- a list for each port of each node of a graph, and what waits there
-pub record AreQueues {M : Type 0} (g : Shape) (waits : ℕ → ℕ → List M) (q : Lists M) : Type 0 where
-  pub count : length q ≡ g.nodes + 1
-  pub ports : (v : ℕ) → 1 ≤ v → v ≤ g.nodes → length (row_at q v) ≡ length (ports_of g.keys v)
-  pub queue : (v p : ℕ) → At (network_of g) v p → queue_at q v p ≡ waits v p
+use Rattle.peer_net.specs.Queues.{AreQueues}
 
 -- a number for each kind
 pub record AreCounts (kinds : ℕ) (count : ℕ → ℕ) (list : List ℕ) : Type 0 where
@@ -38,16 +33,16 @@ module _ {S M : Type 0} (r : Rules S M) where
     pub states : AreNodes g (λ v. r.opening v (ports_of g.keys v)) nodes
 
   -- nodes, queues and counts are those of the net
-  pub record Shows (g : Shape) (w : Net S M) (nodes : List S) (q : Lists M) (c : Counts) : Type 0 where
+  pub record Shows (g : Shape) (w : Net S M) (nodes : List S) (l : ChannelsState M) (c : Counts) : Type 0 where
     pub states : AreNodes g w.node nodes
-    pub queues : AreQueues g w.queue q
+    pub queues : AreQueues g w.queue l
     pub sent : AreCounts r.kinds w.sent c.sent.items
     pub consumed : AreCounts r.kinds w.consumed c.consumed.items
-    pub queued : c.queued + in_all r w.consumed ≡ in_all r w.sent
+    pub queued : total_of l + in_all r w.consumed ≡ in_all r w.sent
     pub deferred : c.deferred ≡ w.deferred
 
   -- the fields are those of the net after a run of the graph
-  pub record IsKept (g : Shape) (es : List Event) (nodes : List S) (q : Lists M) (c : Counts) : Type 0 where
+  pub record IsKept (g : Shape) (es : List Event) (nodes : List S) (l : ChannelsState M) (c : Counts) : Type 0 where
     pub graph : IsGraph g
     pub run : IsRun r (network_of g) es
-    pub shows : Shows g (net_after r g es) nodes q c
+    pub shows : Shows g (net_after r g es) nodes l c

@@ -9,6 +9,7 @@ use Rattle.peer_machine.specs.declared.work.Work.TheVariants.{Wake, Deliver}
 use Rattle.peer_machine.specs.Rules.{Rules, Outcome, Outgoing}
 use Rattle.peer_machine.specs.Net.{Net, event_node, is_lawful}
 use Rattle.peer_machine.specs.Run.{net_after}
+pub use Rattle.peer_machine.specs.Ends.{IsSilent}
 
 pub record NetState : Type 0 where
   pub graph : Shape
@@ -43,7 +44,3 @@ is_deferred r w (events.Take v p) = r.defers (w.node v) (delivery p (w.queue v p
 abbrev pub AreSends : {S M : Type 0} → Rules S M → NetState → Event → Outgoing M → Type 0
 AreSends {S} {M} r s e ss =
     (o : Outcome S M) × (r.reaction ((net_of r s).node (event_node e)) (work_at (net_of r s) e) ≡ Some o) × (ss ≡ o.sends)
-
--- no message waits at any port
-abbrev pub IsSilent : {S M : Type 0} → Network → Net S M → Type 0
-IsSilent g w = (v p : ℕ) → At g v p → w.queue v p ≡ []

@@ -1,45 +1,25 @@
--- The queues of a network: one list of messages for each port of each node, by the node's number.
-use Rattle.std.specs.Prelude.{◌≡◌, ℕ, ◌+◌, ◌<◌, ◌≤◌, List, [], ◌∷◌, ◌++◌, length, replicate, slice_index_or, slice_set}
-use Rattle.ghs_graph.specs.declared.port.Port.{Port}
+-- What waits at the ports of a network, and what comes in there.
+use Rattle.std.specs.Prelude.{◌≡◌, ℕ, List, [], ◌∷◌, ◌++◌, Bool, true, false}
 use Rattle.ghs_graph.specs.Graph.{Shape}
-use Rattle.ghs_graph.specs.Ports.{ports_of, no_port}
-use Rattle.peer_machine.specs.Rules.{Outgoing}
+use Rattle.peer_network.specs.Network.{Network, network_of, At, port_at}
+use Rattle.peer_network.specs.Updates.{put_at}
+use Rattle.peer_channels.specs.Queue.{QueueState, taken, requeued}
+use Rattle.peer_channels.specs.Channels.{ChannelsState, Outgoing, IsFor, queue_at}
 
-abbrev pub Lists : Type 0 → Type 0
-Lists M = List (List (List M))
+-- the queues of a graph, and what waits in each
+pub record AreQueues {M : Type 0} (g : Shape) (waits : ℕ → ℕ → List M) (l : ChannelsState M) : Type 0 where
+  pub ports : IsFor g l
+  pub queue : (v p : ℕ) → At (network_of g) v p → queue_at l v p ≡ waits v p
 
--- the lists of a node's ports
-abbrev pub row_at : {M : Type 0} → Lists M → ℕ → List (List M)
-row_at q v = slice_index_or q v []
+-- one message goes out on a port of node v: it waits last at the far end's port
+abbrev pub with_sent : {M : Type 0} → Network → ℕ → (ℕ → ℕ → List M) → ℕ × M → ℕ → ℕ → List M
+with_sent g v waits s = let to = port_at g v s.0 in put_at waits to.far to.far_port (waits to.far to.far_port ++ s.1 ∷ [])
 
--- node v has a queue at port p
-pub record HasQueue {M : Type 0} (q : Lists M) (v p : ℕ) : Type 0 where
-  pub node : v < length q
-  pub port : p < length (row_at q v)
+abbrev pub with_all_sent : {M : Type 0} → Network → ℕ → Outgoing M → (ℕ → ℕ → List M) → ℕ → ℕ → List M
+with_all_sent g v [] waits = waits
+with_all_sent g v (s ∷ ss) waits = with_all_sent g v ss (with_sent g v waits s)
 
--- what waits at port p of node v
-abbrev pub queue_at : {M : Type 0} → Lists M → ℕ → ℕ → List M
-queue_at q v p = slice_index_or (row_at q v) p []
-
--- the queues, with this list at port p of node v
-abbrev pub with_queue : {M : Type 0} → Lists M → ℕ → ℕ → List M → Lists M
-with_queue q v p ms = slice_set q v (slice_set (row_at q v) p ms)
-
--- an empty queue for each port of each node of a graph
-pub record AreEmptyFor {M : Type 0} (g : Shape) (q : Lists M) : Type 0 where
-  pub count : length q ≡ g.nodes + 1
-  pub rows : (v : ℕ) → 1 ≤ v → v ≤ g.nodes → row_at q v ≡ replicate (length (ports_of g.keys v)) []
-
--- each of a node's ports leads to a queue
-abbrev pub LeadToQueues : {M : Type 0} → Lists M → List Port → Type 0
-LeadToQueues q ports = (i : ℕ) → i < length ports → let to = slice_index_or ports i no_port in HasQueue q to.far to.far_port
-
--- one message goes out on one of a node's ports: to the end of the queue at the far end
-abbrev pub push_one : {M : Type 0} → List Port → Lists M → ℕ × M → Lists M
-push_one ports q s =
-    let to = slice_index_or ports s.0 no_port in
-    with_queue q to.far to.far_port (queue_at q to.far to.far_port ++ s.1 ∷ [])
-
-abbrev pub push_all : {M : Type 0} → List Port → Outgoing M → Lists M → Lists M
-push_all ports [] q = q
-push_all ports (s ∷ ss) q = push_all ports ss (push_one ports q s)
+-- a queue whose first message is taken: at the end if it is deferred, else gone
+abbrev pub after_first : {M : Type 0} → Bool → QueueState M → QueueState M
+after_first true q = requeued q
+after_first false q = taken q

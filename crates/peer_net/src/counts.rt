@@ -5,12 +5,11 @@ ghost use Rattle.peer_net.specs.Counts.{AreNone, CountsSends, CountsTake};
 use peer_machine::protocol::Protocol;
 use std::alloc::{AllocError, Global};
 
-/// How many messages of each kind were sent and were consumed, how many wait, and how many times one was deferred.
+/// How many messages of each kind were sent and were consumed, and how many times one was deferred.
 #[derive(Debug, Drop)]
 pub struct Counts {
     pub sent: Vec<u64>,
     pub consumed: Vec<u64>,
-    pub queued: u64,
     pub deferred: u64,
 }
 
@@ -22,7 +21,6 @@ impl Counts {
         Ok(Counts {
             sent: vec![in alloc; 0u64; kinds]?,
             consumed: vec![in alloc; 0u64; kinds]?,
-            queued: 0,
             deferred: 0,
         })
     }
@@ -32,13 +30,11 @@ impl Counts {
 pub fn count_sends<P: Protocol>(counts: &mut Counts, sends: &[(u32, P::Message)])
     requires kinds { length counts.old.sent.items ≡ P.rules.kinds }
     requires fits { (k : ℕ) → k < P.rules.kinds → slice_index counts.old.sent.items k + length sends.now < 2 ^ 64 }
-    requires total { counts.old.queued + length sends.now < 2 ^ 64 }
     ensures { CountsSends P.rules sends.now counts.old counts.new }
 {
     for i in 0..sends.len() {
         let (_, message) = sends[i];
         counts.sent[P::kind(message)] += 1;
-        counts.queued += 1;
     }
 }
 
@@ -46,11 +42,9 @@ pub fn count_sends<P: Protocol>(counts: &mut Counts, sends: &[(u32, P::Message)]
 pub fn count_take<P: Protocol>(counts: &mut Counts, message: P::Message)
     requires kinds { length counts.old.consumed.items ≡ P.rules.kinds }
     requires fits { (k : ℕ) → k < P.rules.kinds → slice_index counts.old.consumed.items k + 1 < 2 ^ 64 }
-    requires waits { 0 < counts.old.queued }
     ensures { CountsTake P.rules false message counts.old counts.new }
 {
     counts.consumed[P::kind(message)] += 1;
-    counts.queued -= 1;
 }
 
 /// Counts a message that is deferred.

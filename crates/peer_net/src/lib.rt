@@ -6,14 +6,13 @@
 //! of P (`counts`, `bound`).
 //!
 //! `play` takes the time of the reaction and of its sends. Nodes are numbered from 1, ports from 0. Next: `peer_runs`, which
-//! plays events by a seed and plays runs again, and `peer_echo`, a protocol that runs in it.
+//! plays events by a seed and plays runs again, and `echo`, a protocol that runs in it.
 #![tactic(auto)]
 
 mod counts;
 pub mod ledger;
 pub mod net;
 mod parts;
-mod queues;
 mod sending;
 
 pub use peer_machine::event;

@@ -2,7 +2,8 @@
 ghost use Rattle.std.specs.Prelude.{◌≡◌, ℕ, ◌≤◌, [], ◌∷◌, ◌++◌, length, IfOk, IfErr, OnOk, OnErr, IsSome, IsTrue, Some, ◌↔◌, slice_get};
 ghost use Rattle.ghs_graph.specs.Graph.{IsGraph};
 ghost use Rattle.peer_network.specs.Network.{network_of, At};
-ghost use Rattle.peer_machine.specs.Net.{opening, event_node, happens, is_lawful, is_node, is_port};
+ghost use Rattle.peer_index.specs.Places.{IsPlaced};
+ghost use Rattle.peer_machine.specs.Net.{opening, happens, is_lawful, is_node, is_port};
 ghost use Rattle.peer_machine.specs.Run.{IsRun};
 ghost use Rattle.peer_net.specs.NetState.{network, net_of, work_at, is_deferred, AreSends, IsLawful, IsSilent};
 ghost use Rattle.peer_net.specs.Ledger.{IsLedger, IsWithin};
@@ -10,12 +11,14 @@ ghost use Rattle.peer_net.specs.Ledger.{IsLedger, IsWithin};
 use crate::counts::{Counts, count_sends};
 use crate::ledger::Ledger;
 use crate::parts::open_parts;
-use crate::queues::Queues;
 use crate::sending::{send_all, take_in};
 use ghs_graph::graph::Graph;
+use peer_channels::channels::Channels;
+use peer_index::placed::Placed;
 use peer_machine::event::Event;
 use peer_machine::protocol::Protocol;
 use peer_machine::work::Work;
+use peer_network::event::node_of;
 use std::alloc::{AllocError, Global};
 use std::marker::Model;
 
@@ -24,7 +27,7 @@ use std::marker::Model;
 pub struct Net<P: Protocol> {
     graph: Graph,
     nodes: Vec<P::Node>,
-    queues: Queues<P::Message>,
+    channels: Channels<P::Message>,
     counts: Counts,
     trace: Vec<Event>,
 }
@@ -37,14 +40,7 @@ impl<P: Protocol> Model for Net<P> {
 
     ghost view = { λ n. record { graph = n.graph; trace = n.trace.items } };
 
-    ghost invariant = { λ n. IsKept P.rules n.graph n.trace.items n.nodes.items n.queues n.counts };
-}
-
-/// Which node has what to do.
-#[derive(Clone, Copy)]
-struct Task<M> {
-    node: u32,
-    work: Work<M>,
+    ghost invariant = { λ n. IsKept P.rules n.graph n.trace.items n.nodes.items n.channels n.counts };
 }
 
 impl<P: Protocol> Net<P> {
@@ -66,7 +62,7 @@ impl<P: Protocol> Net<P> {
             Ok(parts) => Ok(Net {
                 graph,
                 nodes: parts.nodes,
-                queues: parts.queues,
+                channels: parts.channels,
                 counts: parts.counts,
                 trace: Vec::new(alloc),
             }),
@@ -80,7 +76,22 @@ impl<P: Protocol> Net<P> {
     {
         match event {
             Event::Wake(v) => self.has_node(v) && P::is_asleep(&self.nodes[v as usize - 1]),
-            Event::Take(v, port) => self.has_port(v, port) && self.queues.front(v, port).is_some(),
+            Event::Take(v, port) => self.has_port(v, port)
+                && self.channels.front(v, port).is_some(),
+        }
+    }
+
+    /// The same of a placed event. Nothing is looked up to come from it to its queue.
+    pub fn lawful_placed(&self, placed: Placed) -> bool
+        requires { IsPlaced (network self.now) placed }
+        ensures { result ≡ is_lawful P.rules (network self.now) (net_of P.rules self.now) placed.event }
+    {
+        match placed.event {
+            Event::Wake(v) => P::is_asleep(&self.nodes[v as usize - 1]),
+            Event::Take(v, port) => self
+                .channels
+                .front_from(self.channels.start_of(placed), v, port)
+                .is_some(),
         }
     }
 
@@ -98,7 +109,7 @@ impl<P: Protocol> Net<P> {
         requires { At (network self.now) v port }
         ensures { result ≡ slice_get ((net_of P.rules self.now).queue v port) 0 }
     {
-        self.queues.front(v, port)
+        self.channels.front(v, port)
     }
 
     /// The events that were played.
@@ -133,7 +144,7 @@ impl<P: Protocol> Net<P> {
         Ledger {
             sent: self.counts.sent.as_slice(),
             consumed: self.counts.consumed.as_slice(),
-            queued: self.counts.queued,
+            queued: self.channels.total(),
             deferred: self.counts.deferred,
         }
     }
@@ -142,7 +153,7 @@ impl<P: Protocol> Net<P> {
     pub fn silent(&self) -> bool
         ensures { IsTrue result ↔ IsSilent (network self.now) (net_of P.rules self.now) }
     {
-        self.counts.queued == 0
+        self.channels.total() == 0
     }
 
     /// Whether an event's message is deferred: then it stays in its queue, at the end.
@@ -150,10 +161,9 @@ impl<P: Protocol> Net<P> {
         requires lawful { IsLawful P.rules self.now event }
         ensures { result ≡ is_deferred P.rules (net_of P.rules self.now) event }
     {
-        let task = self.task(event);
         match event {
             Event::Wake(_) => false,
-            Event::Take(v, _) => P::defers(self.node(v), task.work),
+            Event::Take(v, _) => P::defers(self.node(v), self.work_placed(self.placed(event))),
         }
     }
 
@@ -172,37 +182,67 @@ impl<P: Protocol> Net<P> {
         ensures sends { IfOk result (λ s. AreSends P.rules self.old event s.items) }
         ensures err { OnErr result (self.new.trace ≡ self.old.trace) }
     {
-        let task = self.task(event);
-        let at = task.node as usize - 1;
+        let placed = self.placed(event);
+        self.play_placed(alloc, placed)
+    }
+
+    /// The same of a placed event. Nothing is looked up to come from it to its queue.
+    pub fn play_placed(
+        &mut self,
+        alloc: Global,
+        placed: Placed,
+    ) -> Result<Vec<(u32, P::Message)>, AllocError>
+        requires placed { IsPlaced (network self.old) placed }
+        requires lawful { IsLawful P.rules self.old placed.event }
+        ensures graph { self.new.graph ≡ self.old.graph }
+        ensures trace { OnOk result (self.new.trace ≡ self.old.trace ++ placed.event ∷ []) }
+        ensures event { OnOk result (happens P.rules (network self.old) (net_of P.rules self.old) placed.event ≡ Some (net_of P.rules self.new)) }
+        ensures sends { IfOk result (λ s. AreSends P.rules self.old placed.event s.items) }
+        ensures err { OnErr result (self.new.trace ≡ self.old.trace) }
+    {
+        let event = placed.event;
+        let v = placed.node();
+        let at = v as usize - 1;
+        let start = self.channels.start_of(placed);
+        let work = self.work_placed(placed);
         let node = &self.nodes[at];
-        let later = P::defers(node, task.work);
-        let answer = P::react(alloc, node, task.work)?;
+        let later = P::defers(node, work);
+        let answer = P::react(alloc, node, work)?;
         self.trace.reserve(1)?;
-        send_all(&mut self.queues, self.graph.ports(task.node), &answer.sends)?;
+        self.channels.reserve_from(start, v, &answer.sends)?;
         count_sends::<P>(&mut self.counts, &answer.sends);
-        take_in::<P>(&mut self.queues, &mut self.counts, event, later);
+        take_in::<P>(&mut self.channels, &mut self.counts, start, event, later);
         P::apply(&mut self.nodes[at], &answer.change);
+        send_all(&mut self.channels, start, v, &answer.sends);
         self.trace.push_reserved(event);
         Ok(answer.sends)
     }
 
-    /// The node of an event, and what the event gives it to do.
-    fn task(&self, event: Event) -> Task<P::Message>
+    /// A lawful event, with where those of its node begin.
+    fn placed(&self, event: Event) -> Placed
         requires { IsLawful P.rules self.now event }
-        ensures node { result.node ≡ event_node event }
-        ensures work { result.work ≡ work_at (net_of P.rules self.now) event }
+        ensures event { result.event ≡ event }
+        ensures placed { IsPlaced (network self.now) result }
     {
-        match event {
-            Event::Wake(v) => Task {
-                node: v,
-                work: Work::Wake,
-            },
-            Event::Take(v, port) => Task {
-                node: v,
-                work: Work::Deliver {
-                    port,
-                    message: self.queues.front(v, port).unwrap(),
-                },
+        let v = node_of(event);
+        Placed {
+            event,
+            base: self.channels.start(v) + (v - 1),
+        }
+    }
+
+    /// What a lawful event gives its node to do.
+    fn work_placed(&self, placed: Placed) -> Work<P::Message>
+        requires placed { IsPlaced (network self.now) placed }
+        requires lawful { IsLawful P.rules self.now placed.event }
+        ensures { result ≡ work_at (net_of P.rules self.now) placed.event }
+    {
+        let start = self.channels.start_of(placed);
+        match placed.event {
+            Event::Wake(_) => Work::Wake,
+            Event::Take(v, port) => Work::Deliver {
+                port,
+                message: self.channels.front_from(start, v, port).unwrap(),
             },
         }
     }

@@ -1,12 +1,12 @@
 //! The parts of an opening net.
-ghost use Rattle.std.specs.Prelude.{◌≡◌, ℕ, IfOk};
+ghost use Rattle.std.specs.Prelude.{◌≡◌, IfOk};
 ghost use Rattle.peer_net.specs.Kept.{AreOpen};
-ghost use Rattle.peer_net.specs.Queues.{AreEmptyFor};
+ghost use Rattle.peer_channels.specs.Channels.{IsFor, AllEmpty, total_of};
 ghost use Rattle.peer_net.specs.Counts.{AreNone};
 
 use crate::counts::Counts;
-use crate::queues::Queues;
 use ghs_graph::graph::Graph;
+use peer_channels::channels::Channels;
 use peer_machine::protocol::Protocol;
 use std::alloc::{AllocError, Global};
 
@@ -14,22 +14,24 @@ use std::alloc::{AllocError, Global};
 #[derive(Drop)]
 pub struct Parts<P: Protocol> {
     pub nodes: Vec<P::Node>,
-    pub queues: Queues<P::Message>,
+    pub channels: Channels<P::Message>,
     pub counts: Counts,
 }
 
 /// The parts of the opening net of a graph.
 pub fn open_parts<P: Protocol>(alloc: Global, graph: &Graph) -> Result<Parts<P>, AllocError>
     ensures nodes { IfOk result (λ p. AreOpen P.rules graph.now p.nodes.items) }
-    ensures queues { IfOk result (λ p. AreEmptyFor graph.now p.queues) }
+    ensures queues { IfOk result (λ p. IsFor graph.now p.channels) }
+    ensures empty { IfOk result (λ p. AllEmpty p.channels) }
+    ensures total { IfOk result (λ p. total_of p.channels ≡ 0) }
     ensures counts { IfOk result (λ p. AreNone P.rules.kinds p.counts) }
 {
     let nodes = open_nodes::<P>(alloc, graph)?;
-    let queues = Queues::empty(alloc, graph)?;
+    let channels = Channels::new(alloc, graph)?;
     let counts = Counts::none(alloc, P::kinds())?;
     Ok(Parts {
         nodes,
-        queues,
+        channels,
         counts,
     })
 }

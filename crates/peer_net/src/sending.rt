@@ -1,76 +1,54 @@
-//! Messages on their way: what one reaction does to the queues.
-ghost use Rattle.std.specs.Prelude.{◌≡◌, ℕ, List, ◌+◌, ◌<◌, ◌^◌, length, slice_index, OnOk, OnErr};
-ghost use Rattle.std.specs.List.{All};
-ghost use Rattle.peer_net.specs.Queues.{LeadToQueues, push_all};
+//! Messages on their way: what one event does to the queues.
+ghost use Rattle.std.specs.Prelude.{◌≡◌, ℕ, List, ◌+◌, ◌<◌, ◌^◌, length, slice_index};
+ghost use Rattle.ghs_graph.specs.Graph.{Shape};
+ghost use Rattle.peer_network.specs.Events.{event_node};
+ghost use Rattle.peer_network.specs.Network.{network_of};
+ghost use Rattle.peer_channels.specs.Channels.{IsForSome, GoOut, HasRoomFor, first_queue, total_of};
+ghost use Rattle.peer_net.specs.Queues.{AreQueues, with_all_sent};
 ghost use Rattle.peer_net.specs.Taking.{Consumes, WaitsAt, TakesIn};
 
 use crate::counts::{Counts, count_deferred, count_take};
-use crate::queues::Queues;
-use ghs_graph::port::Port;
+use peer_channels::channels::Channels;
 use peer_machine::event::Event;
 use peer_machine::protocol::Protocol;
-use std::alloc::AllocError;
 
-/// Sends messages out on a node's ports, in their order. If an allocation is refused all is as it was.
-pub fn send_all<M: Copy>(
-    queues: &mut Queues<M>,
-    ports: &[Port],
-    sends: &[(u32, M)],
-) -> Result<(), AllocError>
-    requires lead { LeadToQueues queues.old ports.now }
-    requires ports { All (λ (s : ℕ × M). s.0 < length ports.now) sends.now }
-    ensures ok { OnOk result (queues.new ≡ push_all ports.now sends.now queues.old) }
-    ensures err { OnErr result (queues.new ≡ queues.old) }
+/// Sends messages out from node `v`, whose queues begin at `start`, in their order. There is room for them at the far ends.
+pub fn send_all<M: Copy>(channels: &mut Channels<M>, start: u32, v: u32, sends: &[(u32, M)])
+    requires queues { IsForSome channels.old }
+    requires start { start ≡ first_queue channels.old v }
+    requires ports { GoOut channels.old v sends.now }
+    requires room { HasRoomFor v sends.now channels.old }
+    requires total { total_of channels.old + length sends.now < 2 ^ 64 }
+    ensures queues { (g : Shape) (waits : ℕ → ℕ → List M) → AreQueues g waits channels.old →
+        AreQueues g (with_all_sent (network_of g) v sends.now waits) channels.new }
+    ensures total { total_of channels.new ≡ total_of channels.old + length sends.now }
 {
-    for i in 0..sends.len() {
-        let (port, message) = sends[i];
-        let to = ports[port as usize];
-        match queues.push(to.far, to.far_port, message) {
-            Ok(()) => {}
-            Err(error) => {
-                take_back_all(queues, ports, &sends[..i]);
-                return Err(error);
-            }
-        }
-    }
-    Ok(())
-}
-
-/// Takes back messages that have just been sent, the last one first.
-fn take_back_all<M: Copy>(queues: &mut Queues<M>, ports: &[Port], sends: &[(u32, M)])
-    requires ports { All (λ (s : ℕ × M). s.0 < length ports.now) sends.now }
-    requires sent { (q : List (List (List M))) × LeadToQueues q ports.now × (queues.old ≡ push_all ports.now sends.now q) }
-    ensures { (q : List (List (List M))) → LeadToQueues q ports.now → queues.old ≡ push_all ports.now sends.now q → queues.new ≡ q }
-{
-    let mut left = sends.len();
-    while left > 0 {
-        left -= 1;
-        let (port, _) = sends[left];
-        let to = ports[port as usize];
-        queues.take_back(to.far, to.far_port);
+    for (port, message) in sends {
+        channels.send_from(start, v, *port, *message);
     }
 }
 
-/// Takes the message that an event takes: out of its queue, or, if it is deferred, to the end of it. Counts it, and takes no
-/// memory.
+/// Takes the message that an event takes: out of its queue, or, if it is deferred, to the end of it. The queues of the event's
+/// node begin at `start`. Counts the message, and takes no memory.
 pub fn take_in<P: Protocol>(
-    queues: &mut Queues<P::Message>,
+    channels: &mut Channels<P::Message>,
     counts: &mut Counts,
+    start: u32,
     event: Event,
     later: bool,
 )
-    requires waits { WaitsAt event queues.old }
+    requires start { start ≡ first_queue channels.old (event_node event) }
+    requires waits { WaitsAt event channels.old }
     requires kinds { length counts.old.consumed.items ≡ P.rules.kinds }
     requires fits { Consumes later event → (k : ℕ) → k < P.rules.kinds → slice_index counts.old.consumed.items k + 1 < 2 ^ 64 }
-    requires queued { Consumes later event → 0 < counts.old.queued }
     requires room { counts.old.deferred + 1 < 2 ^ 64 }
-    ensures { TakesIn P.rules later event queues.old queues.new counts.old counts.new }
+    ensures { TakesIn P.rules later event channels.old channels.new counts.old counts.new }
 {
     if let Event::Take(v, port) = event {
         if later {
-            queues.defer_front(v, port);
+            channels.requeue_from(start, v, port);
             count_deferred(counts);
-        } else if let Some(message) = queues.take_front(v, port) {
+        } else if let Some(message) = channels.take_front_from(start, v, port) {
             count_take::<P>(counts, message);
         }
     }

@@ -53,7 +53,7 @@ fn play_next<P: Protocol>(
 {
     let mut rest = schedule.copy()?;
     let place = rest.pick(world.ready_count());
-    world.play(alloc, world.ready_at(place))?;
+    world.play_placed(alloc, world.ready_placed_at(place))?;
     *schedule = rest;
     Ok(())
 }

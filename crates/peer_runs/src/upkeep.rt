@@ -1,7 +1,7 @@
 //! The index of the events that may happen, and its upkeep.
 ghost use Rattle.std.specs.Prelude.{◌≡◌, List, [], ◌∷◌, IfOk};
 ghost use Rattle.peer_network.specs.declared.event.Event.{Event as Happening};
-ghost use Rattle.peer_index.specs.Places.{HasPlace};
+ghost use Rattle.peer_index.specs.Places.{IsPlaced};
 ghost use Rattle.peer_index.specs.Index.{IsFor, IsIndexOf, IsIndexBut};
 ghost use Rattle.peer_machine.specs.Net.{event_node};
 ghost use Rattle.peer_net.specs.NetState.{network};
@@ -9,10 +9,10 @@ ghost use Rattle.peer_runs.specs.Upkeep.{IsStale};
 ghost use Rattle.peer_runs.specs.WorldState.{lawful_in};
 
 use peer_index::index::Index;
+use peer_index::placed::Placed;
 use peer_machine::protocol::Protocol;
 use peer_net::event::Event;
 use peer_net::net::Net;
-use peer_network::event::node_of;
 use peer_network::wake_set::WakeSet;
 use std::alloc::{AllocError, Global};
 
@@ -28,7 +28,8 @@ pub fn open_index<P: Protocol>(
     let graph = net.graph();
     let mut index = Index::none(alloc, graph)?;
     for v in 1..graph.nodes() + 1 {
-        mark(&mut index, net, wake, Event::Wake(v));
+        let placed = index.placed(graph, Event::Wake(v));
+        mark(&mut index, net, wake, placed);
     }
     Ok(index)
 }
@@ -43,34 +44,45 @@ pub fn may_happen<P: Protocol>(net: &Net<P>, wake: WakeSet, event: Event) -> boo
     }
 }
 
-/// Marks anew what an event has changed in a net: its node's wake, itself, and the Takes at the far ends of what its node
+/// The same of a placed event.
+fn may_happen_placed<P: Protocol>(net: &Net<P>, wake: WakeSet, placed: Placed) -> bool
+    requires { IsPlaced (network net.now) placed }
+    ensures { result ≡ lawful_in P.rules net.now wake placed.event }
+{
+    match placed.event {
+        Event::Wake(v) => net.lawful_placed(placed) && wake.has(net.graph(), v),
+        Event::Take(..) => net.lawful_placed(placed),
+    }
+}
+
+/// Marks anew what a placed event has changed in a net: its node's wake, itself, and the Takes at the far ends of what its node
 /// sent. O(1) for each, and takes no memory.
 pub fn mark_changed<P: Protocol>(
     index: &mut Index,
     net: &Net<P>,
     wake: WakeSet,
-    event: Event,
+    placed: Placed,
     sends: &[(u32, P::Message)],
 )
-    requires stale { IsStale P.rules net.now wake event sends.now index.old }
+    requires placed { IsPlaced (network net.now) placed }
+    requires stale { IsStale P.rules net.now wake placed.event sends.now index.old }
     ensures { IsIndexOf (network net.now) (lawful_in P.rules net.now wake) index.new }
 {
     let _ = net.trace();
-    let v = node_of(event);
-    mark(index, net, wake, Event::Wake(v));
-    mark(index, net, wake, event);
+    mark(index, net, wake, placed.wake());
+    mark(index, net, wake, placed);
     for (port, _) in sends {
         // What was sent waits there, so neither the node nor the queue is looked at.
-        index.mark_far_take(net.graph(), v, *port);
+        index.mark_far_take_placed(net.graph(), placed, *port);
     }
 }
 
 /// Marks one event anew.
-fn mark<P: Protocol>(index: &mut Index, net: &Net<P>, wake: WakeSet, event: Event)
-    requires place { HasPlace (network net.now) event }
+fn mark<P: Protocol>(index: &mut Index, net: &Net<P>, wake: WakeSet, placed: Placed)
+    requires placed { IsPlaced (network net.now) placed }
     requires index { IsFor (network net.now) index.old }
-    ensures { (others : List Happening) → IsIndexBut (network net.now) (lawful_in P.rules net.now wake) (event ∷ others) index.old →
+    ensures { (others : List Happening) → IsIndexBut (network net.now) (lawful_in P.rules net.now wake) (placed.event ∷ others) index.old →
         IsIndexBut (network net.now) (lawful_in P.rules net.now wake) others index.new }
 {
-    index.set(net.graph(), event, may_happen(net, wake, event));
+    index.set_placed(net.graph(), placed, may_happen_placed(net, wake, placed));
 }

@@ -1,5 +1,6 @@
 //! The world.
 ghost use Rattle.std.specs.Prelude.{◌≡◌, ◌<◌, [], length, slice_get, IfOk, IfErr, OnOk, OnErr, Some, true};
+ghost use Rattle.peer_index.specs.Places.{IsPlaced};
 ghost use Rattle.peer_machine.specs.Run.{IsRunUnder};
 ghost use Rattle.peer_net.specs.NetState.{network};
 ghost use Rattle.peer_runs.specs.WorldState.{wakers, is_ready, ready_events, HasPlayed};
@@ -7,6 +8,7 @@ ghost use Rattle.peer_runs.specs.WorldState.{wakers, is_ready, ready_events, Has
 use crate::upkeep::{mark_changed, may_happen, open_index};
 use ghs_graph::graph::Graph;
 use peer_index::index::Index;
+use peer_index::placed::Placed;
 use peer_machine::protocol::Protocol;
 use peer_net::event::Event;
 use peer_net::net::Net;
@@ -91,8 +93,17 @@ impl<P: Protocol> World<P> {
         requires within { k < length (ready_events P.rules self.now) }
         ensures { slice_get (ready_events P.rules self.now) k ≡ Some result }
     {
+        self.ready_placed_at(k).event
+    }
+
+    /// The same, with where the events of its node begin. O(log N).
+    pub fn ready_placed_at(&self, k: usize) -> Placed
+        requires within { k < length (ready_events P.rules self.now) }
+        ensures event { slice_get (ready_events P.rules self.now) k ≡ Some result.event }
+        ensures placed { IsPlaced (network self.now.net) result }
+    {
         let _ = self.index.count();
-        self.index.kth(self.net.graph(), k as u32)
+        self.index.kth_placed(self.net.graph(), k as u32)
     }
 
     /// Plays an event. Beside the reaction that takes O(1) for each message that is sent. If an allocation is refused the
@@ -102,8 +113,19 @@ impl<P: Protocol> World<P> {
         ensures played { OnOk result (HasPlayed P.rules self.old event self.new) }
         ensures err { OnErr result (self.new ≡ self.old) }
     {
-        let sends = self.net.play(alloc, event)?;
-        mark_changed(&mut self.index, &self.net, self.wake, event, &sends);
+        let placed = self.index.placed(self.net.graph(), event);
+        self.play_placed(alloc, placed)
+    }
+
+    /// The same of a placed event. Nothing is looked up to come from it to its node's queues and marks.
+    pub fn play_placed(&mut self, alloc: Global, placed: Placed) -> Result<(), AllocError>
+        requires placed { IsPlaced (network self.old.net) placed }
+        requires ready { is_ready P.rules self.old placed.event ≡ true }
+        ensures played { OnOk result (HasPlayed P.rules self.old placed.event self.new) }
+        ensures err { OnErr result (self.new ≡ self.old) }
+    {
+        let sends = self.net.play_placed(alloc, placed)?;
+        mark_changed(&mut self.index, &self.net, self.wake, placed, &sends);
         Ok(())
     }
 

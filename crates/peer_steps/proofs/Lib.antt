@@ -1,9 +1,9 @@
--- Serves the proofs: nothing here has to be believed.
+-- Serves the proofs: nothing here has to be believed. lemmas is what proofs above this crate may use.
+pub mod lemmas
 mod Going
 mod Lawful
 mod Listed
 mod Making
 mod Differing
-mod Replayed
 mod Ruled
 mod Span

@@ -23,6 +23,7 @@ use ghs_gr::device::Sink;
 use ghs_graph::graph::Graph;
 use ghs_report::portions::{WriteFault, send_off, send_portion};
 use peer_machine::event::Event;
+use peer_net::ledger::in_total;
 use peer_net::net::Net;
 use peer_network::event::node_of;
 use peer_words::spoken::Spoken;
@@ -193,15 +194,4 @@ fn total<P: Spoken>(net: &Net<P>) -> u128
     ensures { result ≡ in_all P.rules (net_of P.rules net.now).sent }
 {
     in_total(net.ledger().sent)
-}
-
-/// The counts of all kinds together.
-fn in_total(sent: &[u64]) -> u128
-    ensures { result ≡ sum_below (length sent.now) (λ k. slice_index sent.now k) }
-{
-    let mut total = 0;
-    for count in sent {
-        total += u128::from(*count);
-    }
-    total
 }

@@ -5,3 +5,4 @@ pub mod Json
 pub mod Same
 pub mod Touched
 pub mod Words
+pub mod Looks

@@ -20,7 +20,7 @@ pub enum Touched {
 /// // its kind is `changeroot`, and it carries nothing
 /// ```
 pub trait Spoken: Protocol {
-    ghost use Rattle.std.specs.Prelude.{◌≡◌, ℕ, ◌++◌, false, IfOk};
+    ghost use Rattle.std.specs.Prelude.{◌≡◌, ℕ, ◌<◌, ◌++◌, false, IfOk};
     ghost use Rattle.peer_words.specs.Touched.{is_touched};
     ghost use Rattle.peer_words.specs.declared.spoken.Touched.{Touched};
     ghost use Rattle.peer_words.specs.Words.{Words};
@@ -39,6 +39,11 @@ pub trait Spoken: Protocol {
     fn says(message: &Self::Message) -> Saying
         ensures { result ≡ words.says message.now };
 
+    /// The name of a kind of messages, by its number, from 0 on.
+    fn kind_name(kind: usize) -> Word
+        requires { kind < Self.rules.kinds }
+        ensures { result ≡ words.kind kind };
+
     /// The row by which a node reacts to some work.
     fn row(node: &Self::Node, work: &Work<Self::Message>) -> Word
         ensures { result ≡ words.row node.now work.now };
@@ -54,6 +59,9 @@ pub trait Spoken: Protocol {
     /// The ports whose marks a change may change. O(1).
     fn touches(change: &Self::Change) -> Touched
         ensures { result ≡ touched change.now };
+
+    /// A message in words has the name of its kind.
+    ghost names_kinds: { (m : Self.Message) → (words.says m).kind ≡ words.kind (Self.rules.kind_of m) };
 
     /// A change keeps the marks of all other ports.
     ghost keeps_marks: { (n : Self.Node) (c : Self.Change) (p : ℕ) → is_touched (touched c) p ≡ false → words.mark (Self.after n c) p ≡ words.mark n p };

@@ -45,7 +45,7 @@ event_stays g w _ _ i (Took v p m ms o at q r t) =
     ap (λ (n : State). is_sleeping n.head.phase) (node_here boruvka g v o (take_first boruvka g v p m ms w))
     ∙ no_sleeper o.state.head.phase (reaction_grows (w.node v) (Deliver p m) o (sleeper_level i v) r).1
 
-stays_awake : StaysAwake boruvka
+pub stays_awake : StaysAwake boruvka
 stays_awake g w w' e is h = event_stays (network_of g) w w' e (ground_after g w is) h
 
 pub events_are_few : EventsAreFew

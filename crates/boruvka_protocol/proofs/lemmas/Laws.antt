@@ -15,7 +15,7 @@ use Rattle.boruvka_protocol.proofs.follows.Cases.{by_sleep, asleep_no_rest}
 use Rattle.boruvka_protocol.proofs.follows.Laws as laws
 use Rattle.boruvka_protocol.proofs.follows.Tree.{Done, halted_done}
 use Rattle.boruvka_protocol.proofs.bound.Runs as bound
-pub use Rattle.boruvka_protocol.proofs.every_run.Events.{has_kinds}
+pub use Rattle.boruvka_protocol.proofs.every_run.Events.{has_kinds, stays_awake}
 pub use Rattle.boruvka_protocol.proofs.every_run.Nodes.{nodes_keep_ports}
 pub use Rattle.boruvka_protocol.proofs.bound.Fits.{bound_fits}
 pub use Rattle.boruvka_protocol.proofs.bound.Logs.{floor_log2_is}

@@ -2,8 +2,9 @@ use Rattle.ghs_protocol.specs.Marks.{HasEnded}
 use Rattle.ghs_protocol.specs.Run.{net_after}
 use Rattle.ghs_report.specs.ReportText.{IsReportText}
 use Rattle.ghs_world.specs.WorldState.{WorldState}
-use Rattle.ghs_cli.specs.Serving.{GoesOn, IsReplayed, IsRunCause}
-use Rattle.ghs_cli.proofs.Serves.{goes_on, if_err, if_ok, is_replayed}
+use Rattle.ghs_cli.specs.Running.{GoesOn, IsReplayed, IsRunCause}
+use Rattle.ghs_cli.proofs.Replays.{goes_on, is_replayed}
+use Rattle.ghs_cli.proofs.Serves.{if_err, if_ok}
 use Rattle.ghs_cli.proofs.replaying.replayed.Goals as goal
 
 pub returns-in-Ok-clause-text : goal.returns-in-Ok-clause-text

@@ -2,7 +2,7 @@ use Rattle.std.proofs.Common.{refl}
 use Rattle.ghs_commands.specs.declared.job.Task.TheVariants as task
 use Rattle.ghs_cli.specs.Serving.{Serves}
 use Rattle.ghs_cli.proofs.Ending.{ends_as, ends_other}
-use Rattle.ghs_cli.proofs.Serves.{for_some, serves_as, serves_stored, serves_unread, unread_as, unwritten_as, unwritten_but_for_write}
+use Rattle.ghs_cli.proofs.Serves.{for_some, serves_as, serves_stored, serves_unread, unread_as, unread_by, unwritten_as, unwritten_but_for_write}
 use Rattle.ghs_cli.proofs.serve.serve.Goals as goal
 
 pub returns-in-Tree-clause-serves : goal.returns-in-Tree-clause-serves
@@ -15,13 +15,13 @@ returns-in-Tree-clause-serves g c =
 
 pub returns-in-Tree-clause-ends : goal.returns-in-Tree-clause-ends
 returns-in-Tree-clause-ends g c =
-    ends_other c.args.job.now.task (task.Tree c.in-Tree.core) (g.R.Source.left c.args.graph.now) c.print.result c.in-Tree.is refl
+    ends_other c.args.job.now.task (task.Tree c.in-Tree.core) (g.R.Source.left c.args.graph.now) c.print.result c.in-Tree.is (λ i bounded. bounded)
 
 pub returns-in-Tree-clause-unwritten : goal.returns-in-Tree-clause-unwritten
 returns-in-Tree-clause-unwritten g c = unwritten_but_for_write c.args.job.now.task _ _ c.print.result c.print.ensures.unwritten
 
 pub returns-in-Tree-clause-trace : goal.returns-in-Tree-clause-trace
-returns-in-Tree-clause-trace g c = unread_as c.args.job.now.task (task.Tree c.in-Tree.core) _ _ c.in-Tree.is refl
+returns-in-Tree-clause-trace g c = unread_as c.args.job.now.task (task.Tree c.in-Tree.core) _ _ c.in-Tree.is (λ reads. refl)
 
 pub returns-in-Replay-clause-serves : goal.returns-in-Replay-clause-serves
 returns-in-Replay-clause-serves g c =
@@ -36,92 +36,56 @@ returns-in-Replay-clause-serves g c =
 pub returns-in-Replay-clause-ends : goal.returns-in-Replay-clause-ends
 returns-in-Replay-clause-ends g c =
     ends_other c.args.job.now.task (task.Replay c.in-Replay.protocol c.in-Replay.wake) (g.R.Source.left c.args.graph.now)
-    c.print-in-Replay.result c.in-Replay.is refl
+    c.print-in-Replay.result c.in-Replay.is (λ i bounded. bounded)
 
 pub returns-in-Replay-clause-unwritten : goal.returns-in-Replay-clause-unwritten
 returns-in-Replay-clause-unwritten g c =
     unwritten_but_for_write c.args.job.now.task _ _ c.print-in-Replay.result c.print-in-Replay.ensures.unwritten
 
 pub returns-in-Replay-clause-trace : goal.returns-in-Replay-clause-trace
-returns-in-Replay-clause-trace g c = unread_as c.args.job.now.task (task.Replay c.in-Replay.protocol c.in-Replay.wake) _ _ c.in-Replay.is tt
+returns-in-Replay-clause-trace g c = unread_as c.args.job.now.task (task.Replay c.in-Replay.protocol c.in-Replay.wake) _ _ c.in-Replay.is
+    (unread_by (task.Replay c.in-Replay.protocol c.in-Replay.wake) _ _ refl)
 
 pub returns-in-Sweep-clause-serves : goal.returns-in-Sweep-clause-serves
 returns-in-Sweep-clause-serves g c =
-    serves_as c.args.job.now.task (task.Sweep c.in-Sweep.options) (g.T.Source.left c.args.trace.now) (g.R.Source.left c.args.graph.now) _ _
+    serves_as c.args.job.now.task (task.Sweep c.in-Sweep.protocol c.in-Sweep.options) (g.T.Source.left c.args.trace.now)
+    (g.R.Source.left c.args.graph.now) _ _
     c.print-in-Sweep.result c.in-Sweep.is
-    (serves_unread (task.Sweep c.in-Sweep.options) (g.R.Source.left c.args.graph.now) c.sweep_text_of.result _ _
+    (serves_unread (task.Sweep c.in-Sweep.protocol c.in-Sweep.options) (g.R.Source.left c.args.graph.now) c.sweep_text_of.result _ _
     c.print-in-Sweep.result refl refl c.sweep_text_of.ensures.early c.print-in-Sweep.ensures.printed
     (λ s. c.sweep_text_of.ensures.text) (λ s. c.sweep_text_of.ensures.fault))
 
 pub returns-in-Sweep-clause-ends : goal.returns-in-Sweep-clause-ends
 returns-in-Sweep-clause-ends g c =
-    ends_other c.args.job.now.task (task.Sweep c.in-Sweep.options) (g.R.Source.left c.args.graph.now) c.print-in-Sweep.result c.in-Sweep.is refl
+    ends_other c.args.job.now.task (task.Sweep c.in-Sweep.protocol c.in-Sweep.options)
+    (g.R.Source.left c.args.graph.now) c.print-in-Sweep.result c.in-Sweep.is (λ i bounded. bounded)
 
 pub returns-in-Sweep-clause-unwritten : goal.returns-in-Sweep-clause-unwritten
 returns-in-Sweep-clause-unwritten g c = unwritten_but_for_write c.args.job.now.task _ _ c.print-in-Sweep.result c.print-in-Sweep.ensures.unwritten
 
 pub returns-in-Sweep-clause-trace : goal.returns-in-Sweep-clause-trace
-returns-in-Sweep-clause-trace g c = unread_as c.args.job.now.task (task.Sweep c.in-Sweep.options) _ _ c.in-Sweep.is refl
-
-pub returns-in-BoruvkaSweep-clause-serves : goal.returns-in-BoruvkaSweep-clause-serves
-returns-in-BoruvkaSweep-clause-serves g c =
-    serves_as c.args.job.now.task (task.BoruvkaSweep c.in-BoruvkaSweep.options) (g.T.Source.left c.args.trace.now)
-    (g.R.Source.left c.args.graph.now) _ _ c.print-in-BoruvkaSweep.result c.in-BoruvkaSweep.is
-    (serves_unread (task.BoruvkaSweep c.in-BoruvkaSweep.options) (g.R.Source.left c.args.graph.now) c.boruvka_sweep_text_of.result _ _
-    c.print-in-BoruvkaSweep.result refl refl c.boruvka_sweep_text_of.ensures.early c.print-in-BoruvkaSweep.ensures.printed
-    (λ s. c.boruvka_sweep_text_of.ensures.text) (λ s. c.boruvka_sweep_text_of.ensures.fault))
-
-pub returns-in-BoruvkaSweep-clause-ends : goal.returns-in-BoruvkaSweep-clause-ends
-returns-in-BoruvkaSweep-clause-ends g c =
-    ends_other c.args.job.now.task (task.BoruvkaSweep c.in-BoruvkaSweep.options) (g.R.Source.left c.args.graph.now)
-    c.print-in-BoruvkaSweep.result c.in-BoruvkaSweep.is refl
-
-pub returns-in-BoruvkaSweep-clause-unwritten : goal.returns-in-BoruvkaSweep-clause-unwritten
-returns-in-BoruvkaSweep-clause-unwritten g c =
-    unwritten_but_for_write c.args.job.now.task _ _ c.print-in-BoruvkaSweep.result c.print-in-BoruvkaSweep.ensures.unwritten
-
-pub returns-in-BoruvkaSweep-clause-trace : goal.returns-in-BoruvkaSweep-clause-trace
-returns-in-BoruvkaSweep-clause-trace g c =
-    unread_as c.args.job.now.task (task.BoruvkaSweep c.in-BoruvkaSweep.options) _ _ c.in-BoruvkaSweep.is refl
+returns-in-Sweep-clause-trace g c = unread_as c.args.job.now.task (task.Sweep c.in-Sweep.protocol c.in-Sweep.options) _ _ c.in-Sweep.is
+    (λ reads. refl)
 
 pub returns-in-View-clause-serves : goal.returns-in-View-clause-serves
 returns-in-View-clause-serves g c =
-    serves_as c.args.job.now.task (task.View c.in-View.options) (g.T.Source.left c.args.trace.now) (g.R.Source.left c.args.graph.now) _ _
+    serves_as c.args.job.now.task (task.View c.in-View.protocol c.in-View.options) (g.T.Source.left c.args.trace.now)
+    (g.R.Source.left c.args.graph.now) _ _
     c.print-in-View.result c.in-View.is
-    (serves_unread (task.View c.in-View.options) (g.R.Source.left c.args.graph.now) c.view_text_of.result _ _
+    (serves_unread (task.View c.in-View.protocol c.in-View.options) (g.R.Source.left c.args.graph.now) c.view_text_of.result _ _
     c.print-in-View.result refl refl c.view_text_of.ensures.early c.print-in-View.ensures.printed
     (λ s. c.view_text_of.ensures.text) (λ s. c.view_text_of.ensures.fault))
 
 pub returns-in-View-clause-ends : goal.returns-in-View-clause-ends
 returns-in-View-clause-ends g c =
-    ends_other c.args.job.now.task (task.View c.in-View.options) (g.R.Source.left c.args.graph.now) c.print-in-View.result c.in-View.is refl
+    ends_other c.args.job.now.task (task.View c.in-View.protocol c.in-View.options)
+    (g.R.Source.left c.args.graph.now) c.print-in-View.result c.in-View.is (λ i bounded. bounded)
 
 pub returns-in-View-clause-unwritten : goal.returns-in-View-clause-unwritten
 returns-in-View-clause-unwritten g c = unwritten_but_for_write c.args.job.now.task _ _ c.print-in-View.result c.print-in-View.ensures.unwritten
 
 pub returns-in-View-clause-trace : goal.returns-in-View-clause-trace
-returns-in-View-clause-trace g c = unread_as c.args.job.now.task (task.View c.in-View.options) _ _ c.in-View.is refl
-
-pub returns-in-BoruvkaView-clause-serves : goal.returns-in-BoruvkaView-clause-serves
-returns-in-BoruvkaView-clause-serves g c =
-    serves_as c.args.job.now.task (task.BoruvkaView c.in-BoruvkaView.options) (g.T.Source.left c.args.trace.now)
-    (g.R.Source.left c.args.graph.now) _ _ c.print-in-BoruvkaView.result c.in-BoruvkaView.is
-    (serves_unread (task.BoruvkaView c.in-BoruvkaView.options) (g.R.Source.left c.args.graph.now) c.boruvka_view_of.result _ _
-    c.print-in-BoruvkaView.result refl refl c.boruvka_view_of.ensures.early c.print-in-BoruvkaView.ensures.printed
-    (λ s. c.boruvka_view_of.ensures.text) (λ s. c.boruvka_view_of.ensures.fault))
-
-pub returns-in-BoruvkaView-clause-ends : goal.returns-in-BoruvkaView-clause-ends
-returns-in-BoruvkaView-clause-ends g c =
-    ends_other c.args.job.now.task (task.BoruvkaView c.in-BoruvkaView.options) (g.R.Source.left c.args.graph.now)
-    c.print-in-BoruvkaView.result c.in-BoruvkaView.is refl
-
-pub returns-in-BoruvkaView-clause-unwritten : goal.returns-in-BoruvkaView-clause-unwritten
-returns-in-BoruvkaView-clause-unwritten g c =
-    unwritten_but_for_write c.args.job.now.task _ _ c.print-in-BoruvkaView.result c.print-in-BoruvkaView.ensures.unwritten
-
-pub returns-in-BoruvkaView-clause-trace : goal.returns-in-BoruvkaView-clause-trace
-returns-in-BoruvkaView-clause-trace g c =
-    unread_as c.args.job.now.task (task.BoruvkaView c.in-BoruvkaView.options) _ _ c.in-BoruvkaView.is refl
+returns-in-View-clause-trace g c = unread_as c.args.job.now.task (task.View c.in-View.protocol c.in-View.options) _ _ c.in-View.is (λ reads. refl)
 
 pub returns-in-StoredView-clause-serves : goal.returns-in-StoredView-clause-serves
 returns-in-StoredView-clause-serves g c =
@@ -135,7 +99,7 @@ returns-in-StoredView-clause-serves g c =
 pub returns-in-StoredView-clause-ends : goal.returns-in-StoredView-clause-ends
 returns-in-StoredView-clause-ends g c =
     let page = task.StoredView c.in-StoredView.protocol c.in-StoredView.options in
-    ends_other c.args.job.now.task page (g.R.Source.left c.args.graph.now) c.print-in-StoredView.result c.in-StoredView.is refl
+    ends_other c.args.job.now.task page (g.R.Source.left c.args.graph.now) c.print-in-StoredView.result c.in-StoredView.is (λ i bounded. bounded)
 
 pub returns-in-StoredView-clause-unwritten : goal.returns-in-StoredView-clause-unwritten
 returns-in-StoredView-clause-unwritten g c =
@@ -144,60 +108,69 @@ returns-in-StoredView-clause-unwritten g c =
 pub returns-in-StoredView-clause-trace : goal.returns-in-StoredView-clause-trace
 returns-in-StoredView-clause-trace g c =
     let page = task.StoredView c.in-StoredView.protocol c.in-StoredView.options in
-    unread_as c.args.job.now.task page _ _ c.in-StoredView.is tt
+    unread_as c.args.job.now.task page _ _ c.in-StoredView.is (unread_by page _ _ refl)
 
 pub returns-in-Explore-clause-serves : goal.returns-in-Explore-clause-serves
 returns-in-Explore-clause-serves g c =
-    serves_as c.args.job.now.task (task.Explore c.in-Explore.options) (g.T.Source.left c.args.trace.now) (g.R.Source.left c.args.graph.now) _ _
+    serves_as c.args.job.now.task (task.Explore c.in-Explore.protocol c.in-Explore.options) (g.T.Source.left c.args.trace.now)
+    (g.R.Source.left c.args.graph.now) _ _
     c.print-in-Explore.result c.in-Explore.is
-    (serves_unread (task.Explore c.in-Explore.options) (g.R.Source.left c.args.graph.now) c.explored_text_of.result _ _
+    (serves_unread (task.Explore c.in-Explore.protocol c.in-Explore.options) (g.R.Source.left c.args.graph.now) c.explored_text_of.result _ _
     c.print-in-Explore.result refl refl c.explored_text_of.ensures.early c.print-in-Explore.ensures.printed
     (λ s. c.explored_text_of.ensures.text) (λ s. c.explored_text_of.ensures.fault))
 
 pub returns-in-Explore-clause-ends : goal.returns-in-Explore-clause-ends
 returns-in-Explore-clause-ends g c =
-    ends_other c.args.job.now.task (task.Explore c.in-Explore.options) (g.R.Source.left c.args.graph.now) c.print-in-Explore.result
-    c.in-Explore.is refl
+    ends_other c.args.job.now.task (task.Explore c.in-Explore.protocol c.in-Explore.options)
+    (g.R.Source.left c.args.graph.now) c.print-in-Explore.result
+    c.in-Explore.is (λ i bounded. bounded)
 
 pub returns-in-Explore-clause-unwritten : goal.returns-in-Explore-clause-unwritten
 returns-in-Explore-clause-unwritten g c =
     unwritten_but_for_write c.args.job.now.task _ _ c.print-in-Explore.result c.print-in-Explore.ensures.unwritten
 
 pub returns-in-Explore-clause-trace : goal.returns-in-Explore-clause-trace
-returns-in-Explore-clause-trace g c = unread_as c.args.job.now.task (task.Explore c.in-Explore.options) _ _ c.in-Explore.is refl
+returns-in-Explore-clause-trace g c = unread_as c.args.job.now.task
+    (task.Explore c.in-Explore.protocol c.in-Explore.options) _ _ c.in-Explore.is (λ reads. refl)
 
 pub returns-in-Run-clause-serves : goal.returns-in-Run-clause-serves
 returns-in-Run-clause-serves g c =
-    serves_as c.args.job.now.task (task.Run c.in-Run.options) (g.T.Source.left c.args.trace.now) (g.R.Source.left c.args.graph.now) _ _
+    serves_as c.args.job.now.task (task.Run c.in-Run.protocol c.in-Run.options) (g.T.Source.left c.args.trace.now)
+    (g.R.Source.left c.args.graph.now) _ _
     c.write_run_of.result c.in-Run.is c.write_run_of.ensures.serves
 
 pub returns-in-Run-clause-ends : goal.returns-in-Run-clause-ends
 returns-in-Run-clause-ends g c =
-    ends_as c.args.job.now.task (task.Run c.in-Run.options) (g.R.Source.left c.args.graph.now) c.write_run_of.result c.in-Run.is
+    ends_as c.args.job.now.task (task.Run c.in-Run.protocol c.in-Run.options) (g.R.Source.left c.args.graph.now) c.write_run_of.result c.in-Run.is
     c.write_run_of.ensures.ends
 
 pub returns-in-Run-clause-unwritten : goal.returns-in-Run-clause-unwritten
 returns-in-Run-clause-unwritten g c =
-    unwritten_as c.args.job.now.task (task.Run c.in-Run.options) _ _ c.write_run_of.result c.in-Run.is c.write_run_of.ensures.unwritten
+    unwritten_as c.args.job.now.task (task.Run c.in-Run.protocol c.in-Run.options) _ _ c.write_run_of.result c.in-Run.is
+    c.write_run_of.ensures.unwritten
 
 pub returns-in-Run-clause-trace : goal.returns-in-Run-clause-trace
-returns-in-Run-clause-trace g c = unread_as c.args.job.now.task (task.Run c.in-Run.options) _ _ c.in-Run.is refl
+returns-in-Run-clause-trace g c = unread_as c.args.job.now.task (task.Run c.in-Run.protocol c.in-Run.options) _ _ c.in-Run.is (λ reads. refl)
 
 pub returns-in-Steps-clause-serves : goal.returns-in-Steps-clause-serves
 returns-in-Steps-clause-serves g c =
-    serves_as c.args.job.now.task (task.Steps c.in-Steps.options) (g.T.Source.left c.args.trace.now) (g.R.Source.left c.args.graph.now) _ _
+    serves_as c.args.job.now.task (task.Steps c.in-Steps.protocol c.in-Steps.options) (g.T.Source.left c.args.trace.now)
+    (g.R.Source.left c.args.graph.now) _ _
     c.write_steps_of.result c.in-Steps.is c.write_steps_of.ensures.serves
 
 pub returns-in-Steps-clause-ends : goal.returns-in-Steps-clause-ends
 returns-in-Steps-clause-ends g c =
-    ends_other c.args.job.now.task (task.Steps c.in-Steps.options) (g.R.Source.left c.args.graph.now) c.write_steps_of.result c.in-Steps.is refl
+    ends_other c.args.job.now.task (task.Steps c.in-Steps.protocol c.in-Steps.options)
+    (g.R.Source.left c.args.graph.now) c.write_steps_of.result c.in-Steps.is (λ i bounded. bounded)
 
 pub returns-in-Steps-clause-unwritten : goal.returns-in-Steps-clause-unwritten
 returns-in-Steps-clause-unwritten g c =
-    unwritten_as c.args.job.now.task (task.Steps c.in-Steps.options) _ _ c.write_steps_of.result c.in-Steps.is c.write_steps_of.ensures.unwritten
+    unwritten_as c.args.job.now.task (task.Steps c.in-Steps.protocol c.in-Steps.options) _ _ c.write_steps_of.result c.in-Steps.is
+    c.write_steps_of.ensures.unwritten
 
 pub returns-in-Steps-clause-trace : goal.returns-in-Steps-clause-trace
-returns-in-Steps-clause-trace g c = unread_as c.args.job.now.task (task.Steps c.in-Steps.options) _ _ c.in-Steps.is tt
+returns-in-Steps-clause-trace g c = unread_as c.args.job.now.task (task.Steps c.in-Steps.protocol c.in-Steps.options) _ _ c.in-Steps.is
+    (unread_by (task.Steps c.in-Steps.protocol c.in-Steps.options) _ _ refl)
 
 pub returns-in-Make-clause-serves : goal.returns-in-Make-clause-serves
 returns-in-Make-clause-serves g c =
@@ -208,48 +181,12 @@ returns-in-Make-clause-serves g c =
 
 pub returns-in-Make-clause-ends : goal.returns-in-Make-clause-ends
 returns-in-Make-clause-ends g c =
-    ends_other c.args.job.now.task (task.Make c.in-Make.asked) (g.R.Source.left c.args.graph.now) c.write_network_of.result c.in-Make.is refl
+    ends_other c.args.job.now.task (task.Make c.in-Make.asked) (g.R.Source.left c.args.graph.now) c.write_network_of.result c.in-Make.is
+    (λ i bounded. bounded)
 
 pub returns-in-Make-clause-unwritten : goal.returns-in-Make-clause-unwritten
 returns-in-Make-clause-unwritten g c =
     unwritten_as c.args.job.now.task (task.Make c.in-Make.asked) _ _ c.write_network_of.result c.in-Make.is c.write_network_of.ensures.unwritten
 
 pub returns-in-Make-clause-trace : goal.returns-in-Make-clause-trace
-returns-in-Make-clause-trace g c = unread_as c.args.job.now.task (task.Make c.in-Make.asked) _ _ c.in-Make.is refl
-
-pub returns-in-Boruvka-clause-serves : goal.returns-in-Boruvka-clause-serves
-returns-in-Boruvka-clause-serves g c =
-    serves_as c.args.job.now.task (task.Boruvka c.in-Boruvka.options) (g.T.Source.left c.args.trace.now) (g.R.Source.left c.args.graph.now) _ _
-    c.write_boruvka_of.result c.in-Boruvka.is c.write_boruvka_of.ensures.serves
-
-pub returns-in-Boruvka-clause-ends : goal.returns-in-Boruvka-clause-ends
-returns-in-Boruvka-clause-ends g c =
-    ends_as c.args.job.now.task (task.Boruvka c.in-Boruvka.options) (g.R.Source.left c.args.graph.now) c.write_boruvka_of.result c.in-Boruvka.is
-    c.write_boruvka_of.ensures.ends
-
-pub returns-in-Boruvka-clause-unwritten : goal.returns-in-Boruvka-clause-unwritten
-returns-in-Boruvka-clause-unwritten g c =
-    unwritten_as c.args.job.now.task (task.Boruvka c.in-Boruvka.options) _ _ c.write_boruvka_of.result c.in-Boruvka.is
-    c.write_boruvka_of.ensures.unwritten
-
-pub returns-in-Boruvka-clause-trace : goal.returns-in-Boruvka-clause-trace
-returns-in-Boruvka-clause-trace g c = unread_as c.args.job.now.task (task.Boruvka c.in-Boruvka.options) _ _ c.in-Boruvka.is refl
-
-pub returns-in-BoruvkaSteps-clause-serves : goal.returns-in-BoruvkaSteps-clause-serves
-returns-in-BoruvkaSteps-clause-serves g c =
-    serves_as c.args.job.now.task (task.BoruvkaSteps c.in-BoruvkaSteps.options) (g.T.Source.left c.args.trace.now) (g.R.Source.left
-    c.args.graph.now) _ _
-    c.write_boruvka_steps_of.result c.in-BoruvkaSteps.is c.write_boruvka_steps_of.ensures.serves
-
-pub returns-in-BoruvkaSteps-clause-ends : goal.returns-in-BoruvkaSteps-clause-ends
-returns-in-BoruvkaSteps-clause-ends g c =
-    ends_other c.args.job.now.task (task.BoruvkaSteps c.in-BoruvkaSteps.options) (g.R.Source.left c.args.graph.now)
-    c.write_boruvka_steps_of.result c.in-BoruvkaSteps.is refl
-
-pub returns-in-BoruvkaSteps-clause-unwritten : goal.returns-in-BoruvkaSteps-clause-unwritten
-returns-in-BoruvkaSteps-clause-unwritten g c =
-    unwritten_as c.args.job.now.task (task.BoruvkaSteps c.in-BoruvkaSteps.options) _ _ c.write_boruvka_steps_of.result
-    c.in-BoruvkaSteps.is c.write_boruvka_steps_of.ensures.unwritten
-
-pub returns-in-BoruvkaSteps-clause-trace : goal.returns-in-BoruvkaSteps-clause-trace
-returns-in-BoruvkaSteps-clause-trace g c = unread_as c.args.job.now.task (task.BoruvkaSteps c.in-BoruvkaSteps.options) _ _ c.in-BoruvkaSteps.is tt
+returns-in-Make-clause-trace g c = unread_as c.args.job.now.task (task.Make c.in-Make.asked) _ _ c.in-Make.is (λ reads. refl)

@@ -1,8 +1,9 @@
 use Rattle.std.proofs.Common.{take, arith, ℕ, length-take, ap, sym, ◌∙◌}
-use Rattle.ghs_channels.proofs.lemmas.Ports.{same_first}
+use Rattle.peer_channels.proofs.lemmas.Ports.{same_first}
 use Rattle.ghs_node.specs.declared.message.Message.{Message}
 use Rattle.ghs_node.specs.Kind.{place_of}
-use Rattle.ghs_core.proofs.Sending.{port_out, room_for_next, kind_few, none_sent, one_sent}
+use Rattle.peer_channels.proofs.lemmas.Rooms.{port_out, room_for_next}
+use Rattle.ghs_core.proofs.Sending.{kind_few, none_sent, one_sent}
 use Rattle.ghs_core.proofs.dispatch.send_all.Goals as goal
 
 pub loop-port-init : goal.loop-port-init

@@ -1,5 +1,5 @@
 use Rattle.ghs_graph.specs.Graph.{Shape}
-use Rattle.ghs_channels.specs.Channels.{IsFor}
+use Rattle.peer_channels.specs.Channels.{IsFor}
 use Rattle.ghs_core.proofs.Sending.{Sent}
 use Rattle.ghs_core.proofs.dispatch.send_all.Given as goal
 

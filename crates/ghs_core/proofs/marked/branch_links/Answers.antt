@@ -1,7 +1,7 @@
 use Rattle.std.proofs.Common.{◌+◌, ◌<◌, ◌∙◌, length, ap, arith, get_or, replicate, ℕ}
 use Rattle.ghs_graph.specs.Key.{no_key}
 use Rattle.ghs_node.specs.Words.{is_branch}
-use Rattle.ghs_channels.proofs.lemmas.Ports.{ports_few}
+use Rattle.peer_channels.proofs.lemmas.Ports.{ports_few}
 use Rattle.ghs_core.proofs.Finding.{nothing_found, among, port_fits, port_has, branch_is, found_more, other_end, ends_a, ends_b, wanted_is}
 use Rattle.ghs_core.proofs.marked.branch_links.Goals as goal
 

@@ -1,5 +1,5 @@
 use Rattle.std.proofs.Common.{◌+◌}
-use Rattle.ghs_channels.proofs.lemmas.Ports.{ports_few}
+use Rattle.peer_channels.proofs.lemmas.Ports.{ports_few}
 use Rattle.ghs_core.proofs.parts.sleepers.Goals as goal
 
 pub asleep-requires : goal.asleep-requires

@@ -1,4 +1,4 @@
-use Rattle.ghs_channels.proofs.lemmas.Ports.{same_for}
+use Rattle.peer_channels.proofs.lemmas.Ports.{same_for}
 use Rattle.ghs_run_examples.proofs.queues.requeue.Goals as goal
 
 pub requeue-requires : goal.requeue-requires

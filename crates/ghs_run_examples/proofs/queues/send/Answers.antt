@@ -1,5 +1,5 @@
 use Rattle.std.proofs.Common.{arith}
-use Rattle.ghs_channels.proofs.lemmas.Ports.{same_for}
+use Rattle.peer_channels.proofs.lemmas.Ports.{same_for}
 use Rattle.ghs_run_examples.proofs.Sending.{one_out, one_has_room, far_has_room}
 use Rattle.ghs_run_examples.proofs.queues.send.Goals as goal
 

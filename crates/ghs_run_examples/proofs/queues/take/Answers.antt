@@ -1,4 +1,4 @@
-use Rattle.ghs_channels.proofs.lemmas.Ports.{same_for}
+use Rattle.peer_channels.proofs.lemmas.Ports.{same_for}
 use Rattle.ghs_run_examples.proofs.queues.take.Goals as goal
 
 pub take_front-requires : goal.take_front-requires

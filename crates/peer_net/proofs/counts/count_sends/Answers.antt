@@ -25,4 +25,4 @@ loop-i-preserved g c =
     take_more sends c.loop-i.i s c.loop-i-test.true ∙ ap (λ y. take c.loop-i.i sends ++ y ∷ []) (sym is) in
     rw (more, c.kind.ensures)
     (counted_one r c.args.counts.now c.loop-i.counts _ (take c.loop-i.i sends) s c.index_mut.result.now c.requires.kinds c.loop-i.invariant
-    (g.met.P.Protocol.has_kinds s.1) (rw c.kind.ensures at c.index_mut.ensures.value) refl refl refl refl)
+    (g.met.P.Protocol.has_kinds s.1) (rw c.kind.ensures at c.index_mut.ensures.value) refl refl refl)

@@ -1,24 +1,51 @@
-use Rattle.std.proofs.Common.{◌≡◌, ℕ, [], ◌∷◌, ◌++◌, slice_index_or, sym, subst}
-use Rattle.std.proofs.lemmas.List.{get_or_default}
-use Rattle.ghs_graph.specs.Ports.{no_port}
-use Rattle.peer_net.specs.Queues.{queue_at, with_queue}
-use Rattle.peer_net.proofs.Lists.{still_leads, pushed_more}
+use Rattle.std.proofs.Common.{arith, ℕ, ap, sym, ◌∙◌, length-take}
+use Rattle.peer_channels.proofs.lemmas.Ports.{same_first}
+use Rattle.peer_channels.proofs.lemmas.Rooms.{port_out, room_for_next}
+use Rattle.peer_net.proofs.Showing.{none_sent, one_sent, all_sent}
 use Rattle.peer_net.proofs.sending.send_all.Goals as goal
 
-pub push-requires : goal.push-requires
-push-requires g c =
-    still_leads c.args.ports.now c.args.sends.now c.loop-i.i c.args.queues.now c.loop-i.queues c.requires.ports c.requires.lead c.loop-i.invariant
-    _ (c.requires.ports c.loop-i.i c.index-sends-i.result c.loop-i-test.true)
+pub loop-port-init : goal.loop-port-init
+loop-port-init g c = λ h for. none_sent h c.args.v c.args.sends.now c.args.channels.now c.requires.room
 
-pub loop-i-preserved : goal.loop-i-preserved
-loop-i-preserved g c =
-    let sends = c.args.sends.now in
-    let i = c.loop-i.i in
-    let s = slice_index_or sends i c.index-sends-i.result in
-    let to = slice_index_or c.args.ports.now s.0 no_port in
-    let old = c.loop-i.queues in
-    let pushed =
-    subst (λ (z : ℕ × g.row.M.Denot). c.push.new.self ≡ with_queue old to.far to.far_port (queue_at old to.far to.far_port ++ z.1 ∷ []))
-    (get_or_default sends i c.index-sends-i-in-loop-i.result c.index-sends-i.result c.loop-i-test.true) c.in-Ok.ensures.ok in
-    pushed_more c.args.ports.now sends i s c.args.queues.now old c.push.new.self c.loop-i-test.true
-    (sym (get_or_default sends i s c.index-sends-i.result c.loop-i-test.true)) c.loop-i.invariant pushed
+pub send_from-requires-clause-start : goal.send_from-requires-clause-start
+send_from-requires-clause-start g c =
+    let so_far = c.loop-port.invariant c.requires.queues.0 c.requires.queues.1 in
+    c.requires.start ∙ sym (same_first c.args.channels.now c.loop-port.channels so_far.ports c.args.v)
+
+pub send_from-requires-clause-port : goal.send_from-requires-clause-port
+send_from-requires-clause-port g c =
+    let so_far = c.loop-port.invariant c.requires.queues.0 c.requires.queues.1 in
+    port_out c.args.channels.now c.loop-port.channels c.args.v c.args.sends.now c.loop-port.port-index c.loop-port-item.result c.requires.ports
+    so_far.ports c.loop-port-test.true c.loop-port-item.is
+
+pub send_from-requires-clause-room : goal.send_from-requires-clause-room
+send_from-requires-clause-room g c =
+    let x = c.loop-port-item.result in
+    let so_far = c.loop-port.invariant c.requires.queues.0 c.requires.queues.1 in
+    let port =
+    port_out c.args.channels.now c.loop-port.channels c.args.v c.args.sends.now c.loop-port.port-index x c.requires.ports so_far.ports
+    c.loop-port-test.true c.loop-port-item.is in
+    room_for_next c.args.v c.loop-port.channels c.args.sends.now c.loop-port.port-index x x c.loop-port-test.true c.loop-port-item.is port so_far.room
+
+pub send_from-requires-clause-total : goal.send_from-requires-clause-total
+send_from-requires-clause-total g c =
+    let so_far = c.loop-port.invariant c.requires.queues.0 c.requires.queues.1 in
+    let total = so_far.total in
+    omega (arith, total, length-take {A = ℕ × g.row.M.Denot} c.loop-port.port-index c.args.sends.now)
+
+pub loop-port-preserved : goal.loop-port-preserved
+loop-port-preserved g c = λ h for.
+    let x = c.loop-port-item.result in
+    one_sent h c.args.v c.args.sends.now c.loop-port.port-index x x c.args.channels.now c.loop-port.channels _ for c.requires.ports
+    c.loop-port-test.true c.loop-port-item.is (c.loop-port.invariant h for) c.send_from.ensures
+
+pub returns-clause-queues : goal.returns-clause-queues
+returns-clause-queues g c = λ h waits it.
+    all_sent h c.args.v c.args.sends.now c.loop-port.port-index c.args.channels.now c.loop-port.channels (c.loop-port.invariant h it.ports)
+    (let past = c.loop-port-test.false in omega arith) waits it
+
+pub returns-clause-total : goal.returns-clause-total
+returns-clause-total g c =
+    let so_far = c.loop-port.invariant c.requires.queues.0 c.requires.queues.1 in
+    let past = c.loop-port-test.false in
+    so_far.total ∙ ap (λ n. n) (omega (arith, past, length-take {A = ℕ × g.row.M.Denot} c.loop-port.port-index c.args.sends.now))

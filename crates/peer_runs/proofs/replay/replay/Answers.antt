@@ -1,6 +1,7 @@
 use Rattle.std.proofs.Common.{ap, length, sym, ◌∙◌}
 use Rattle.peer_net.specs.NetState.{NetState}
-use Rattle.peer_runs.proofs.Replaying.{first_unlawful, never_unlawful}
+use Rattle.peer_runs.specs.WorldState.{WorldState}
+use Rattle.peer_runs.proofs.Replaying.{first_unlawful, never_unlawful, on_err}
 use Rattle.peer_runs.proofs.replay.replay.Goals as goal
 
 pub returns-then-not-is_ready-clause-fault : goal.returns-then-not-is_ready-clause-fault
@@ -13,3 +14,8 @@ pub returns-then-not-is_ready-clause-run : goal.returns-then-not-is_ready-clause
 returns-then-not-is_ready-clause-run g c =
     λ is_run.
     absurd (never_unlawful g.P.Protocol.rules c.args.graph c.args.wake c.args.events.now _ is_run (returns-then-not-is_ready-clause-fault g c))
+
+pub returns-then-is_err-clause-back : goal.returns-then-is_err-clause-back
+returns-then-is_err-clause-back g c =
+    let same = on_err c.play.result (sym c.is_err.ensures.value ∙ c.if-is_err.true) c.play.ensures.err in
+    c.into_graph-then-is_err.ensures ∙ ap (λ (s : WorldState). s.net.graph) same ∙ c.loop-event.invariant.graph

@@ -9,4 +9,4 @@ use Rattle.peer_runs.proofs.upkeep.mark_changed.Given as goal
 abbrev pub invariant-loop-port : goal.invariant-loop-port
 invariant-loop-port g l =
     IsIndexBut (network l.net) (lawful_in g.P.Protocol.rules l.net l.fn.wake)
-    (arrivals (network l.net) (event_node l.fn.event) (drop l.port-index l.sends)) l.index
+    (arrivals (network l.net) (event_node l.fn.placed.event) (drop l.port-index l.sends)) l.index

@@ -13,10 +13,8 @@ loop-v-init g c =
     none_but_wakes g.P.Protocol.rules c.args.net.now c.args.wake c.requires.opening c.in_ok-index.index
     (rw c.graph-graph.ensures at c.in_ok-index.ensures)
 
-pub mark-requires-clause-place : goal.mark-requires-clause-place
-mark-requires-clause-place g c =
-    let many = c.nodes-v-end.ensures.nodes ∙ ap (λ (h : Shape). h.nodes) c.graph-graph.ensures in
-    (omega arith, omega (arith, many, c.loop-v-test.true))
+pub mark-requires-clause-placed : goal.mark-requires-clause-placed
+mark-requires-clause-placed g c = rw c.graph-graph.ensures at c.placed-placed.ensures.placed
 
 pub mark-requires-clause-index : goal.mark-requires-clause-index
 mark-requires-clause-index g c = c.loop-v.invariant.index
@@ -25,7 +23,7 @@ pub loop-v-preserved : goal.loop-v-preserved
 loop-v-preserved g c =
     let n = c.args.net.now in
     let many = c.nodes-v-end.ensures.nodes ∙ ap (λ (h : Shape). h.nodes) c.graph-graph.ensures in
-    c.mark.ensures _
+    (rw c.placed-placed.ensures.event at c.mark.ensures) _
     (subst (λ (es : List Event). IsIndexBut (network n) (lawful_in g.P.Protocol.rules n c.args.wake) es c.loop-v.index)
     (next_wake n.graph.nodes c.loop-v.v (omega (arith, many, c.loop-v-test.true))) c.loop-v.invariant)
 

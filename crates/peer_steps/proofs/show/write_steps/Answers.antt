@@ -1,5 +1,5 @@
 use Rattle.std.proofs.Common.{inr, ◌∙◌}
-use Rattle.peer_steps.proofs.Replayed.{replayed}
+use Rattle.peer_steps.proofs.lemmas.Replayed.{replayed}
 use Rattle.peer_steps.proofs.show.write_steps.Goals as goal
 
 pub write_run-requires-clause-run : goal.write_run-requires-clause-run

@@ -1,10 +1,22 @@
-use Rattle.std.proofs.Common.{◌≡◌, ◌+◌, ◌∙◌, arith, take}
+use Rattle.std.proofs.Common.{◌≡◌, ℕ, ◌+◌, ◌∙◌, List, [], arith, subst, sym, take}
 use Rattle.std.proofs.lemmas.List.{take_all}
 use Rattle.peer_network.specs.declared.event.Event.TheVariants.{Wake}
 use Rattle.ghs_report.specs.declared.portions.WriteFault.TheVariants.{Memory}
-use Rattle.ghs_report.proofs.lemmas.Gone.{out_all, out_front}
+use Rattle.ghs_report.specs.Written.{IsOut}
+use Rattle.ghs_report.proofs.lemmas.Gone.{out_all, out_front, out_start}
 use Rattle.peer_steps.proofs.Going.{front_of_lines, grown, next_lawful, out_next}
 use Rattle.peer_steps.proofs.write.write_run.Goals as goal
+
+pub loop-event-init : goal.loop-event-init
+loop-event-init g c =
+    let held = g.W.Sink.held c.args.writer.now in
+    record {
+      graph = c.in-Ok.ensures.graph;
+      trace = c.in-Ok.ensures.trace;
+      sound = c.requires.sound;
+      out = subst (λ (t : List ℕ). IsOut held held [] 0 t) (sym c.new-text.ensures.items) (out_start held);
+      small = omega arith;
+    }
 
 pub show-requires : goal.show-requires
 show-requires g c =

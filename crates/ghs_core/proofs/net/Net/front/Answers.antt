@@ -1,4 +1,4 @@
-use Rattle.ghs_core.proofs.Showing.{port_queue}
+use Rattle.peer_channels.proofs.lemmas.Rooms.{port_queue}
 use Rattle.ghs_core.proofs.net.Net.front.Goals as goal
 
 pub front-requires : goal.front-requires

@@ -1,4 +1,4 @@
-use Rattle.ghs_core.proofs.Showing.{port_queue}
+use Rattle.peer_channels.proofs.lemmas.Rooms.{port_queue}
 use Rattle.ghs_core.proofs.net.Net.front_from.Goals as goal
 
 pub front_from-requires-clause-port : goal.front_from-requires-clause-port

@@ -2,7 +2,7 @@ use Rattle.std.proofs.Common.{◌≡◌, true, sym, ◌∙◌}
 use Rattle.peer_network.specs.Network.{is_port}
 use Rattle.ghs_core.specs.NetState.{network}
 use Rattle.peer_network.proofs.lemmas.Events.{at_of}
-use Rattle.ghs_core.proofs.Showing.{port_queue}
+use Rattle.peer_channels.proofs.lemmas.Rooms.{port_queue}
 use Rattle.ghs_core.proofs.net.Net.lawful.Goals as goal
 
 pub front-requires : goal.front-requires

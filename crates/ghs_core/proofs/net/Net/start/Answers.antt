@@ -1,5 +1,5 @@
 use Rattle.std.proofs.Common.{arith, ap, ◌∙◌}
-use Rattle.ghs_channels.specs.Channels.{first_queue}
+use Rattle.peer_channels.specs.Channels.{first_queue}
 use Rattle.ghs_core.specs.NetState.{NetState}
 use Rattle.ghs_core.proofs.net.Net.start.Goals as goal
 

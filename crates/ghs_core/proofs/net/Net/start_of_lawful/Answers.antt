@@ -1,7 +1,7 @@
 use Rattle.std.proofs.Common.{arith, ap, ◌∙◌}
 use Rattle.peer_network.specs.Network.{network_of}
 use Rattle.ghs_protocol.specs.Run.{net_after}
-use Rattle.ghs_channels.specs.Channels.{first_queue}
+use Rattle.peer_channels.specs.Channels.{first_queue}
 use Rattle.ghs_core.specs.NetState.{NetState, event_node}
 use Rattle.ghs_core.proofs.lemmas.Lawful.{lawful_node}
 use Rattle.ghs_core.proofs.net.Net.start_of_lawful.Goals as goal

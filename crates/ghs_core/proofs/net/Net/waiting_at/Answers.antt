@@ -1,4 +1,4 @@
-use Rattle.ghs_core.proofs.Showing.{port_queue}
+use Rattle.peer_channels.proofs.lemmas.Rooms.{port_queue}
 use Rattle.ghs_core.proofs.net.Net.waiting_at.Goals as goal
 
 pub len_at-requires : goal.len_at-requires

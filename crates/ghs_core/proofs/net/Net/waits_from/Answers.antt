@@ -2,7 +2,7 @@ use Rattle.std.proofs.Common.{sym, ◌∙◌}
 use Rattle.ghs_protocol.specs.Run.{net_after}
 use Rattle.ghs_core.proofs.PuttingBack.{back_here}
 use Rattle.ghs_core.proofs.Reading.{lawful_port, port_below}
-use Rattle.ghs_core.proofs.Showing.{port_queue}
+use Rattle.peer_channels.proofs.lemmas.Rooms.{port_queue}
 use Rattle.ghs_core.proofs.net.Net.waits_from.Goals as goal
 
 pub front_from-requires-clause-port : goal.front_from-requires-clause-port

@@ -5,7 +5,7 @@ use Rattle.ghs_protocol.specs.Run.{IsRun, net_after}
 use Rattle.ghs_core.specs.NetState.{net_of, network, work_at}
 use Rattle.ghs_core.proofs.Interleaved.{work_has_rule}
 use Rattle.ghs_core.proofs.Reading.{lawful_port}
-use Rattle.ghs_core.proofs.Showing.{port_queue}
+use Rattle.peer_channels.proofs.lemmas.Rooms.{port_queue}
 use Rattle.ghs_core.proofs.net.Net.work_from.Goals as goal
 
 pub front_from-requires-clause-port : goal.front_from-requires-clause-port

@@ -1,4 +1,0 @@
--- To be believed: contracts cite what stands here, and what it is made of.
-pub mod Ended
-pub mod Branches
-pub mod ReportText

@@ -1,3 +1,0 @@
--- Serves the proofs: nothing here has to be believed.
-mod Counts
-mod Front

@@ -1,0 +1,107 @@
+//! The words of the echo wave.
+ghost use Rattle.std.specs.Prelude.{◌≡◌, ◌++◌, IfOk};
+ghost use Rattle.echo.specs.Echo.{echo};
+ghost use Rattle.echo.specs.Words.{kind_word, mark_of, state_variables, wave_variables};
+
+use crate::node::{Change, Message, Node};
+use crate::protocol::Echo;
+use crate::row_name::{row_of, row_word};
+use peer_machine::work::Work;
+use peer_words::spoken::{Spoken, Touched};
+use peer_words::value::{Carried, Said, Saying, Value, Word};
+use std::alloc::AllocError;
+
+impl Spoken for Echo {
+    ghost use Rattle.echo.specs.Words.{words as all_words, touched_by};
+    ghost use Rattle.echo.specs.Kept.{keeps, named};
+
+    ghost words = { all_words };
+
+    ghost touched = { touched_by };
+
+    fn name() -> Word {
+        Word::of(b"echo")
+    }
+
+    fn says(message: &Message) -> Saying {
+        match message {
+            Message::Explore => Saying::new(b"explore", Carried::Nothing),
+            Message::Echo => Saying::new(b"echo", Carried::Nothing),
+        }
+    }
+
+    fn kind_name(kind: usize) -> Word {
+        kind_word(kind)
+    }
+
+    fn row(node: &Node, work: &Work<Message>) -> Word {
+        row_word(row_of(node, work))
+    }
+
+    fn put_variables(list: &mut Vec<Said>, node: &Node) -> Result<(), AllocError> {
+        put_wave(list, node)?;
+        put_state(list, node)
+    }
+
+    fn mark(node: &Node, port: u32) -> Word {
+        mark_of(node, port)
+    }
+
+    fn touches(change: &Change) -> Touched {
+        match change {
+            Change::Joins { .. } => Touched::AllPorts,
+            Change::Awaits(_) => Touched::NoPort,
+        }
+    }
+
+    ghost names_kinds = { named };
+
+    ghost keeps_marks = { keeps };
+}
+
+fn kind_word(kind: usize) -> Word
+    ensures { result ≡ kind_word kind }
+{
+    match kind {
+        0 => Word::of(b"explore"),
+        _ => Word::of(b"echo"),
+    }
+}
+
+/// Whether a node takes part, and who asked it.
+fn put_wave(list: &mut Vec<Said>, node: &Node) -> Result<(), AllocError>
+    ensures { IfOk result (λ _. list.new.items ≡ list.old.items ++ wave_variables node.now) }
+{
+    list.push(Said::new(b"awake", Value::Flag(node.head.awake)))?;
+    list.push(Said::new(b"parent", Value::Port(node.head.parent)))?;
+    Ok(())
+}
+
+/// How many answers it awaits, and whether it has halted.
+fn put_state(list: &mut Vec<Said>, node: &Node) -> Result<(), AllocError>
+    ensures { IfOk result (λ _. list.new.items ≡ list.old.items ++ state_variables node.now) }
+{
+    list.push(Said::new(b"awaits", Value::Number(u64::from(node.head.awaits))))?;
+    list.push(Said::new(b"halted", Value::Flag(has_halted(node))))?;
+    Ok(())
+}
+
+/// An initiator that awaits nothing has halted.
+fn has_halted(node: &Node) -> bool
+    ensures { result ≡ echo.has_halted node.now }
+{
+    node.head.awake && node.head.parent.is_none() && node.head.awaits == 0
+}
+
+/// What a node knows of one of its ports.
+fn mark_of(node: &Node, port: u32) -> Word
+    ensures { result ≡ mark_of node.now port }
+{
+    if !node.head.awake {
+        Word::of(b"basic")
+    } else if node.head.parent == Some(port) {
+        Word::of(b"parent")
+    } else {
+        Word::of(b"asked")
+    }
+}

@@ -1,2 +1,0 @@
--- What proofs about queues above this crate may use.
-pub mod Ports

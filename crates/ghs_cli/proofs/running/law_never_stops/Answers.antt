@@ -1,0 +1,11 @@
+use Rattle.boruvka.specs.Ended.{HasEnded}
+use Rattle.boruvka_node.specs.Boruvka.{boruvka}
+use Rattle.boruvka_protocol.specs.Bound.{bound_of}
+use Rattle.ghs_cli.proofs.Ending.{any_never_stops, ghs_never_stops}
+use Rattle.ghs_cli.proofs.running.law_never_stops.Goals as goal
+
+pub returns-in-Ghs : goal.returns-in-Ghs
+returns-in-Ghs c = rw c.in-Ghs.is ghs_never_stops
+
+pub returns-in-Boruvka : goal.returns-in-Boruvka
+returns-in-Boruvka c = rw c.in-Boruvka.is (any_never_stops boruvka HasEnded bound_of c.law_turns.ensures)

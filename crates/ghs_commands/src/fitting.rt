@@ -1,0 +1,73 @@
+//! What doesn't go with every protocol.
+ghost use Rattle.clap.specs.Words.{subcommand_rows_of};
+ghost use Rattle.ghs_commands.specs.Job.{fits_every, runs_so, shows_so, sweeps_so};
+ghost use Rattle.std.specs.Prelude.{◌≡◌, is_none};
+
+use crate::job::value_of;
+use crate::networks::{are_several, values_of};
+use crate::parts::is_said;
+use crate::values::{is_among, is_number};
+use clap::ArgMatches;
+
+/// The first argument that doesn't go with every protocol: GHS alone takes it.
+pub(crate) fn stranger_in<'a>(matches: &ArgMatches<'a>) -> Option<&'static str>
+    ensures { is_none result ≡ fits_every (subcommand_rows_of matches.now) }
+{
+    match stranger_of_run(matches) {
+        Some(argument) => Some(argument),
+        None => match stranger_of_sweep(matches) {
+            Some(argument) => Some(argument),
+            None => stranger_of_view(matches),
+        },
+    }
+}
+
+/// The first that says how a network is run, or what is told of its run.
+fn stranger_of_run<'a>(matches: &ArgMatches<'a>) -> Option<&'static str>
+    ensures { is_none result ≡ runs_so (subcommand_rows_of matches.now) }
+{
+    if !is_number(value_of(matches, "workers"), 0, 0) {
+        Some("--workers <workers>")
+    } else if !is_among(value_of(matches, "schedule"), &["seeded"]) {
+        Some("--schedule <schedule>")
+    } else if is_said(value_of(matches, "core"), "true") {
+        Some("--core")
+    } else if value_of(matches, "limit").is_none()
+        && is_said(value_of(matches, "progress"), "true")
+    {
+        Some("--progress")
+    } else if is_said(value_of(matches, "tally"), "true") {
+        Some("--tally")
+    } else {
+        None
+    }
+}
+
+/// The first that says what is swept, or what is printed of a sweep.
+fn stranger_of_sweep<'a>(matches: &ArgMatches<'a>) -> Option<&'static str>
+    ensures { is_none result ≡ sweeps_so (subcommand_rows_of matches.now) }
+{
+    if !is_among(value_of(matches, "sheet"), &["runs"]) {
+        Some("--print <sheet>")
+    } else if value_of(matches, "by").is_some() {
+        Some("--by <by>")
+    } else if is_said(value_of(matches, "names"), "true") {
+        Some("--names")
+    } else if are_several(values_of(matches, "FILE")) {
+        Some("[FILE]...")
+    } else if value_of(matches, "sheet").is_some() && is_said(value_of(matches, "json"), "true") {
+        Some("--json")
+    } else {
+        None
+    }
+}
+
+/// The first that says what is shown on a page.
+fn stranger_of_view<'a>(matches: &ArgMatches<'a>) -> Option<&'static str>
+    ensures { is_none result ≡ shows_so (subcommand_rows_of matches.now) }
+{
+    match value_of(matches, "pair") {
+        Some(_) => Some("--seeds <pair>"),
+        None => None,
+    }
+}

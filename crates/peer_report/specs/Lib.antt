@@ -1,0 +1,6 @@
+-- To be believed: contracts cite what stands here, and what it is made of.
+pub mod Account
+pub mod Branches
+pub mod ExploredText
+pub mod ReportText
+pub mod Runs

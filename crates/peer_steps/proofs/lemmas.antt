@@ -1,0 +1,2 @@
+-- What proofs above this crate may use.
+pub mod Replayed
