@@ -1,0 +1,11 @@
+//! The columns of lines.
+use crate::measure::Measure;
+use peer_words::value::Word;
+
+/// A column: its name, what is measured in it, and whether that has one value in all runs of a graph that have ended.
+#[derive(Drop)]
+pub struct Column {
+    pub name: Word,
+    pub measure: Measure,
+    pub is_fixed: bool,
+}

@@ -1,0 +1,137 @@
+//! Runs of any protocol that finds a tree, has words and whose messages have lengths.
+ghost use Rattle.peer_sweep.specs.Figures.{AreFigures};
+ghost use Rattle.peer_sweep.specs.Runs.{AreFiguresOf, is_bound};
+ghost use Rattle.std.specs.Prelude.{◌≡◌, ◌<◌, IfOk, length, slice_index};
+
+use crate::figures::Figures;
+use crate::measure::Measure;
+use crate::setup::Setup;
+use crate::swept::Swept;
+use ghs_graph::graph::Graph;
+use ghs_report::weight::total_weight;
+use peer_lengths::laws::law_bits;
+use peer_lengths::lengths::lengths_of;
+use peer_machine::ends::FindsTree;
+use peer_machine::measured::Measured;
+use peer_net::ledger::in_total;
+use peer_net::net::Net;
+use peer_report::branches::branches;
+use peer_report::ended::net_ended;
+use peer_report::run::run_by_seed;
+use peer_words::spoken::Spoken;
+use peer_words::value::Word;
+use std::alloc::{AllocError, Global};
+use std::marker::PhantomData;
+
+/// A protocol swept by its rules.
+pub struct ByRules<P> {
+    protocol: PhantomData<P>,
+}
+
+impl<P: FindsTree + Spoken + Measured> Swept for ByRules<P> {
+    ghost use Rattle.peer_sweep.specs.Runs.{AreFiguresOf, about_rules};
+
+    ghost about = { about_rules P.rules P.words };
+
+    ghost are_figures_of = { AreFiguresOf P.rules P.bound P.is_branch P.has_ended };
+
+    fn name() -> Word {
+        P::name()
+    }
+
+    fn kinds() -> usize {
+        P::kinds()
+    }
+
+    fn kind_name(kind: usize) -> Word {
+        P::kind_name(kind)
+    }
+
+    fn is_fixed(measure: Measure) -> bool {
+        is_bound(measure)
+    }
+
+    fn figures_of_seed(
+        alloc: Global,
+        graph: &Graph,
+        setup: Setup,
+        seed: u64,
+    ) -> Result<Figures, AllocError> {
+        seeded::<P>(alloc, graph, setup, seed)
+    }
+
+    ghost leave_room = { λ g s seed f are. are.figures.room };
+}
+
+/// Whether a measure is the bound.
+fn is_bound(measure: Measure) -> bool
+    ensures { result ≡ is_bound measure }
+{
+    match measure {
+        Measure::Bound => true,
+        _ => false,
+    }
+}
+
+/// The figures of the run that a seed picks, from the opening of a graph to its end or to its last turn. Refusal: out of
+/// memory.
+fn seeded<P: FindsTree + Spoken + Measured>(
+    alloc: Global,
+    graph: &Graph,
+    setup: Setup,
+    seed: u64,
+) -> Result<Figures, AllocError>
+    ensures { IfOk result (λ f. AreFiguresOf P.rules P.bound P.is_branch P.has_ended graph.now setup seed f) }
+{
+    let copy = graph.copy(alloc)?;
+    let (world, _) = run_by_seed::<P>(alloc, copy, setup.wake, seed, setup.turns)?;
+    figures_of(alloc, world.net())
+}
+
+/// The figures of a net. Its events are played once more for the run's lengths. Refusal: out of memory.
+///
+/// ```text
+/// let figures = figures_of(alloc, world.net())?;
+/// // once a run of two nodes and a link of weight 5 has ended, by Borůvka in step: figures.kinds begins with 2, 1, 0, 1, 0
+/// ```
+pub fn figures_of<P: FindsTree + Measured>(
+    alloc: Global,
+    net: &Net<P>,
+) -> Result<Figures, AllocError>
+    ensures { IfOk result (λ f. AreFigures P.rules P.bound P.is_branch P.has_ended net.now.graph net.now.trace f) }
+{
+    law_bits::<P::Node, P::Message>();
+    let graph = net.graph();
+    let lengths = lengths_of::<P>(alloc, graph, net.trace())?;
+    let tree = branches(alloc, net)?;
+    let most = P::bound_of(graph);
+    let ledger = net.ledger();
+    let total = in_total(ledger.sent) as u64;
+    Ok(Figures {
+        nodes: graph.nodes(),
+        links: graph.links(),
+        events: net.trace().len() as u64,
+        sent: total,
+        kinds: first_eight(ledger.sent),
+        requeued: ledger.deferred,
+        queued: ledger.queued,
+        bound: most,
+        level: None,
+        fragments: None,
+        weight: Some(total_weight(&tree)),
+        ended: net_ended(net),
+        lengths,
+    })
+}
+
+/// The first eight of some counts; 0, where there are fewer.
+fn first_eight(counts: &[u64]) -> [u64; 8]
+    ensures many { length result ≡ 8 }
+    ensures each { (k : _) → k < 8 → k < length counts.now → slice_index result k ≡ slice_index counts.now k }
+{
+    let mut first = [0; 8];
+    for k in 0..counts.len().min(8) {
+        first[k] = counts[k];
+    }
+    first
+}
