@@ -1,5 +1,5 @@
 -- Figures that are the graph's: two runs that have ended have the same.
-use Rattle.std.proofs.Common.{◌≡◌, ◌∙◌, ℕ, ◌<◌, ◌≤◌, true, List, [], ◌∷◌, ap, arith, length, max, subst, suc, sym, ⊎_elim}
+use Rattle.std.proofs.Common.{◌≡◌, ◌∙◌, ℕ, ◌<◌, ◌≤◌, true, List, [], ◌∷◌, ap, arith, length, max, eqb-true, refl, subst, suc, sym, zero, Option, Some, None, ⊎_elim}
 use Rattle.std.proofs.Math.Nat.{le-max_left, le-max_right, max-le}
 use Rattle.std.proofs.lemmas.List.Elements.{All-contains}
 use Rattle.std.specs.List.{AllPairs, Contains, fold}
@@ -22,11 +22,12 @@ use Rattle.ghs_protocol.proofs.lemmas.Merging.{connects_agree, halted_are_highes
 use Rattle.ghs_core.specs.Census.{IsCensus, IsRow}
 use Rattle.ghs_core.specs.declared.census.FragmentRow.{FragmentRow}
 use Rattle.ghs_core.specs.Marked.{AreBranches}
-use Rattle.ghs_sweep.specs.declared.figures.Figures.{Figures}
-use Rattle.ghs_sweep.specs.declared.measure.Measure.{Measure}
-use Rattle.ghs_sweep.specs.declared.measure.Measure.TheVariants as measure
+use Rattle.peer_sweep.specs.declared.figures.Figures.{Figures}
+use Rattle.peer_sweep.specs.declared.measure.Measure.{Measure}
+use Rattle.peer_sweep.specs.declared.measure.Measure.TheVariants as measure
 use Rattle.ghs_sweep.specs.Figures.{AreFigures, greatest_level}
-use Rattle.ghs_sweep.specs.Measure.{FixedMeasuresAgree, is_fixed, value_of}
+use Rattle.peer_sweep.specs.Measure.{value_of}
+use Rattle.ghs_sweep.specs.Measure.{FixedMeasuresAgree, is_connect, is_fixed}
 
 -- the greatest level is at least each row's, and no more than what none is above
 has_level : (rows : List FragmentRow) (a : ℕ) → a ≤ fold (λ most (row : FragmentRow). max most row.level) a rows
@@ -164,58 +165,54 @@ module _ (g : Shape) (es fs : List Event) (f f' : Figures) (ok : IsGraph g) (run
   n' : IsNetOf g (net_after g fs)
   n' = record { graph = ok; events = fs; run = after_is_net g fs run' }
 
-  connects : value_of measure.Connect f ≡ value_of measure.Connect f'
+  connects : value_of (measure.Kind (Some 0)) f ≡ value_of (measure.Kind (Some 0)) f'
   connects =
-      a.messages.kinds 0 (omega arith) ∙ connects_agree g (net_after g es) (net_after g fs) n n' (a.ended.0 e) (b.ended.0 e') ∙
-      sym (b.messages.kinds 0 (omega arith))
+      ap (λ (n : ℕ). Some n)
+      (a.messages.kinds 0 (omega arith) ∙ connects_agree g (net_after g es) (net_after g fs) n n' (a.ended.0 e) (b.ended.0 e') ∙
+      sym (b.messages.kinds 0 (omega arith)))
 
   bounds : f.bound ≡ f'.bound
   bounds =
       let one = bound_is_one g.nodes (length g.keys) (let z = ok.some in omega (arith, z)) in
       one.2 f.bound a.messages.bound ∙ sym (one.2 f'.bound b.messages.bound)
 
-  levels : f.level ≡ f'.level
+  levels : greatest_level a.marks.rows ≡ greatest_level b.marks.rows
   levels =
       let x =
       not_higher g (net_after g es) (net_after g fs) n n' (a.ended.0 e) (b.ended.0 e') a.marks.rows b.marks.rows a.marks.census b.marks.census in
       let y =
       not_higher g (net_after g fs) (net_after g es) n' n (b.ended.0 e') (a.ended.0 e) b.marks.rows a.marks.rows b.marks.census a.marks.census in
-      let p = a.marks.level in
-      let q = b.marks.level in
-      omega (arith, x, y, p, q)
+      omega (arith, x, y)
 
-  fragments : f.fragments ≡ f'.fragments
+  fragments : length a.marks.rows ≡ length b.marks.rows
   fragments =
       let x =
       not_more g (net_after g es) (net_after g fs) n n' (a.ended.0 e) (b.ended.0 e') a.marks.rows b.marks.rows a.marks.census b.marks.census in
       let y =
       not_more g (net_after g fs) (net_after g es) n' n (b.ended.0 e') (a.ended.0 e) b.marks.rows a.marks.rows b.marks.census a.marks.census in
-      let p = a.marks.fragments in
-      let q = b.marks.fragments in
-      omega (arith, x, y, p, q)
+      omega (arith, x, y)
 
-  weights : f.weight ≡ f'.weight
+  weights : total_weight a.marks.branches ≡ total_weight b.marks.branches
   weights =
-      let same = same_keys a.marks.branches b.marks.branches a.marks.all.rising b.marks.all.rising
+      ap total_weight
+      (same_keys a.marks.branches b.marks.branches a.marks.all.rising b.marks.all.rising
       (branches_there g (net_after g es) (net_after g fs) n n' (a.ended.0 e) (b.ended.0 e') a.marks.branches b.marks.branches a.marks.all b.marks.all)
       (branches_there g (net_after g fs) (net_after g es) n' n (b.ended.0 e') (a.ended.0 e) b.marks.branches a.marks.branches b.marks.all
-      a.marks.all) in
-      a.marks.weight ∙ ap total_weight same ∙ sym b.marks.weight
+      a.marks.all))
+
+  of_kind : (k : Option ℕ) → is_connect k ≡ true → value_of (measure.Kind k) f ≡ value_of (measure.Kind k) f'
+  of_kind None i = refl
+  of_kind (Some zero) i = connects
+  of_kind (Some (suc k)) i = absurd (let z = eqb-true (suc k) 0 i in omega (arith, z))
 
   agree : (m : Measure) → is_fixed m ≡ true → value_of m f ≡ value_of m f'
-  agree measure.Connect i = connects
-  agree measure.Bound i = bounds
-  agree measure.Level i = levels
-  agree measure.Fragments i = fragments
-  agree measure.Weight i = weights
+  agree (measure.Kind k) i = of_kind k i
+  agree measure.Bound i = ap (λ (n : ℕ). Some n) bounds
+  agree measure.Level i = a.marks.level ∙ ap (λ (n : ℕ). Some n) levels ∙ sym b.marks.level
+  agree measure.Fragments i = a.marks.fragments ∙ ap (λ (n : ℕ). Some n) fragments ∙ sym b.marks.fragments
+  agree measure.Weight i = a.marks.weight ∙ ap (λ (n : ℕ). Some n) weights ∙ sym b.marks.weight
   agree measure.Events i = cc
   agree measure.Sent i = cc
-  agree measure.Initiate i = cc
-  agree measure.Test i = cc
-  agree measure.Accept i = cc
-  agree measure.Reject i = cc
-  agree measure.Report i = cc
-  agree measure.Changeroot i = cc
   agree measure.Requeued i = cc
   agree measure.Queued i = cc
   agree measure.Halted i = cc

@@ -1,9 +1,4 @@
--- Serves the proofs: nothing here has to be believed. lemmas is what proofs above this crate may use.
-pub mod lemmas
+-- Serves the proofs: nothing here has to be believed.
 pub mod Opened
-pub mod Appending
-pub mod Lining
-pub mod Measuring
-mod Naming
-mod SummaryExamples
+pub mod Seven
 mod Fixed

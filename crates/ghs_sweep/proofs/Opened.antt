@@ -7,8 +7,8 @@ use Rattle.ghs_graph.specs.Graph.{Shape}
 use Rattle.ghs_picking.specs.Picking.{IsPickedBy}
 use Rattle.peer_network.specs.declared.wake_set.WakeSet.{WakeSet}
 use Rattle.ghs_world.specs.WorldState.{WorldState}
-use Rattle.ghs_sweep.specs.declared.figures.Figures.{Figures}
-use Rattle.ghs_sweep.specs.declared.seeded.Setup.{Setup}
+use Rattle.peer_sweep.specs.declared.figures.Figures.{Figures}
+use Rattle.peer_sweep.specs.declared.setup.Setup.{Setup}
 use Rattle.ghs_sweep.specs.Figures.{AreFigures}
 use Rattle.ghs_sweep.specs.Sweep.{AreFiguresOf}
 

@@ -1,5 +1,5 @@
--- The figures of a run.
-use Rattle.std.specs.Prelude.{◌≡◌, ℕ, ◌<◌, ◌≤◌, ◌^◌, ◌↔◌, true, max, List, length, slice_index}
+-- The figures of a run of GHS.
+use Rattle.std.specs.Prelude.{◌≡◌, ℕ, ◌<◌, ◌≤◌, ◌↔◌, true, max, List, Some, length, slice_index}
 use Rattle.std.specs.List.{fold}
 use Rattle.ghs_graph.specs.declared.key.Key.{Key}
 use Rattle.ghs_graph.specs.Bound.{IsBound}
@@ -15,15 +15,13 @@ use Rattle.ghs_core.specs.Census.{IsCensus}
 use Rattle.ghs_core.specs.Marked.{AreBranches}
 use Rattle.ghs_core.specs.declared.census.FragmentRow.{FragmentRow}
 use Rattle.ghs_picking.specs.Lengths.{lengths_of}
-use Rattle.ghs_sweep.specs.declared.figures.Figures.{Figures}
+use Rattle.peer_lengths.specs.declared.lengths.Lengths.{Lengths}
+use Rattle.peer_sweep.specs.declared.figures.Figures.{Figures}
+use Rattle.peer_sweep.specs.Figures.{LeavesRoom}
 
 -- the greatest level of some fragments
 abbrev pub greatest_level : List FragmentRow → ℕ
 greatest_level rows = fold (λ most row. max most row.level) 0 rows
-
--- a weight that leaves room for the sum of many
-abbrev pub HasSmallWeight : Figures → Type 0
-HasSmallWeight f = f.weight < 2 ^ 96
 
 -- the messages: how many were sent, of all kinds and of each, were requeued, and wait
 pub record AreMessages (g : Shape) (w : Net) (f : Figures) : Type 0 where
@@ -38,12 +36,17 @@ pub record AreMessages (g : Shape) (w : Net) (f : Figures) : Type 0 where
 pub record AreLinksAndFragments (g : Shape) (w : Net) (f : Figures) : Type 0 where
   pub rows : List FragmentRow
   pub census : IsCensus (network_of g) w rows
-  pub fragments : f.fragments ≡ length rows
-  pub level : f.level ≡ greatest_level rows
+  pub fragments : f.fragments ≡ Some (length rows)
+  pub level : f.level ≡ Some (greatest_level rows)
   pub branches : List Key
   pub all : AreBranches (network_of g) w branches
-  pub weight : f.weight ≡ total_weight branches
-  pub small : HasSmallWeight f
+  pub weight : f.weight ≡ Some (total_weight branches)
+
+-- how long the run of some events is: its longest chain, its bits, and its longest message
+pub record AreLengths (g : Shape) (es : List Event) (l : Lengths) : Type 0 where
+  pub chain : l.chain ≡ (lengths_of g es).chain
+  pub bits : l.bits ≡ (lengths_of g es).bits
+  pub longest : l.longest ≡ (lengths_of g es).longest
 
 -- the figures of the net after some events, and how long the run of these events is
 pub record AreFigures (g : Shape) (es : List Event) (f : Figures) : Type 0 where
@@ -53,4 +56,5 @@ pub record AreFigures (g : Shape) (es : List Event) (f : Figures) : Type 0 where
   pub messages : AreMessages g (net_after g es) f
   pub marks : AreLinksAndFragments g (net_after g es) f
   pub ended : (f.ended ≡ true) ↔ HasEnded g (net_after g es)
-  pub lengths : f.lengths ≡ lengths_of g es
+  pub lengths : AreLengths g es f.lengths
+  pub room : LeavesRoom f

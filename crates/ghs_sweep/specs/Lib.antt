@@ -1,9 +1,4 @@
 -- To be believed: contracts cite what stands here, and what it is made of.
 pub mod Figures
-pub mod Front
-pub mod JsonLine
-pub mod Line
-pub mod Lines
 pub mod Measure
-pub mod Summary
 pub mod Sweep

@@ -1,4 +1,4 @@
-//! How a run stands, in numbers.
+//! How a run of GHS stands, in numbers.
 ghost use Rattle.ghs_picking.specs.Lengths.{lengths_of};
 ghost use Rattle.ghs_protocol.specs.Ledger.{in_all};
 ghost use Rattle.ghs_sweep.specs.Figures.{AreFigures, greatest_level};
@@ -9,34 +9,9 @@ use ghs_core::net::Net;
 use ghs_graph::bounds::bound;
 use ghs_picking::lengths::{RunLengths, lengths_of};
 use ghs_report::weight::total_weight;
+use peer_lengths::lengths::Lengths;
+use peer_sweep::figures::Figures;
 use std::alloc::{AllocError, Global};
-
-/// How a run stands, in numbers.
-#[derive(Clone, Copy, Debug, PartialEq, Eq)]
-pub struct Figures {
-    pub nodes: u32,
-    pub links: u64,
-    pub events: u64,
-    /// How many messages were sent, of all kinds together.
-    pub sent: u64,
-    /// How many of each kind, in the order of kinds.
-    pub kinds: [u64; 7],
-    /// How often a message was put back to the end of its queue.
-    pub requeued: u64,
-    /// How many messages wait in queues.
-    pub queued: u64,
-    /// The bound on the messages sent.
-    pub bound: u64,
-    /// The greatest level of a node, 0 to 20.
-    pub level: u8,
-    pub fragments: u64,
-    /// The weight of the Branch links together.
-    pub weight: u128,
-    /// Whether the run has ended.
-    pub ended: bool,
-    /// How long the run is: its longest chain, its bits and its longest message.
-    pub lengths: RunLengths,
-}
 
 /// The figures of a net. Its events are played once more for the run's lengths. Refusal: out of memory.
 pub fn figures_of(alloc: Global, net: &Net) -> Result<Figures, AllocError>
@@ -61,20 +36,27 @@ pub(crate) fn figures_with(
     let ledger = net.ledger();
     let census = net.census(alloc)?;
     let branches = net.branches(alloc)?;
+    let sent = &ledger.sent;
     Ok(Figures {
         nodes: graph.nodes(),
         links: graph.links(),
         events: net.events(),
-        sent: in_total(&ledger.sent),
-        kinds: ledger.sent,
+        sent: in_total(sent),
+        kinds: [
+            sent[0], sent[1], sent[2], sent[3], sent[4], sent[5], sent[6], 0,
+        ],
         requeued: ledger.requeued,
         queued: ledger.queued,
         bound: most,
-        level: greatest_level(&census),
-        fragments: census.len() as u64,
-        weight: total_weight(&branches),
+        level: Some(greatest_level(&census)),
+        fragments: Some(census.len() as u64),
+        weight: Some(total_weight(&branches)),
         ended: net.ended(),
-        lengths,
+        lengths: Lengths {
+            chain: lengths.chain,
+            bits: u128::from(lengths.bits),
+            longest: lengths.longest,
+        },
     })
 }
 

@@ -4,6 +4,7 @@ use Rattle.ghs_graph.specs.Bound.{IsBound}
 use Rattle.ghs_protocol.specs.Ledger.{in_all}
 use Rattle.ghs_protocol.specs.Net.{Net}
 use Rattle.peer_network.proofs.lemmas.Sums.{sum_same}
+use Rattle.ghs_sweep.proofs.Seven.{seven_of}
 use Rattle.ghs_sweep.proofs.figures.figures_with.Goals as goal
 
 -- what was sent is within the bound, which is a number of 64 bits
@@ -28,7 +29,7 @@ returns c =
       events = c.events.ensures;
       messages = record {
         sent = total ∙ sum;
-        kinds = ledger.counts.sent;
+        kinds = seven_of c.ledger-ledger.result.sent _ ledger.counts.sent;
         requeued = ledger.counts.requeued;
         queued = ledger.counts.queued;
         bound = is_bound;
@@ -42,8 +43,8 @@ returns c =
         branches = c.in_ok-branches.branches.items;
         all = c.in_ok-branches.ensures.links;
         weight = search rules;
-        small = c.total_weight.ensures.small;
       };
       ended = c.ended.ensures.ended;
-      lengths = c.requires;
+      lengths = record { chain = search rules; bits = search rules; longest = search rules };
+      room = record { weight = c.total_weight.ensures.small; bits = search rules };
     }

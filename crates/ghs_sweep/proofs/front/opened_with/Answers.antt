@@ -1,6 +1,0 @@
-use Rattle.std.proofs.Common.{rules}
-use Rattle.ghs_sweep.proofs.Naming.{print_opened}
-use Rattle.ghs_sweep.proofs.front.opened_with.Goals as goal
-
-pub returns : goal.returns
-returns c = search (rules, print_opened c.args.name.now)

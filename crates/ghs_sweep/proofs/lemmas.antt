@@ -1,2 +1,0 @@
--- Lemmas that proofs above this crate may use.
-pub mod Weights
