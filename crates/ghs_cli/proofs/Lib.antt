@@ -8,6 +8,7 @@ mod MadeNetworks
 mod Named
 mod Parted
 mod Replays
+mod Roomy
 mod Runs
 mod Serves
 mod Sheets

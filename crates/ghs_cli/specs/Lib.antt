@@ -11,5 +11,6 @@ pub mod Running
 pub mod Serving
 pub mod Stepping
 pub mod Sweeping
+pub mod Swept
 pub mod Verbs
 pub mod Viewing

@@ -8,48 +8,46 @@ use Rattle.ghs_parts.specs.Line.{head_line}
 use Rattle.ghs_parts.specs.Lines.{run_text}
 use Rattle.ghs_choices.specs.declared.form.Form.{Form}
 use Rattle.ghs_choices.specs.declared.form.Form.TheVariants.{Text, Json}
-use Rattle.ghs_sweep.specs.declared.figures.Figures.{Figures}
-use Rattle.ghs_sweep.specs.declared.line.TheConstants.{HEAD_LINE}
-use Rattle.ghs_sweep.specs.declared.seeded.Setup.{Setup}
-use Rattle.ghs_sweep.specs.declared.summary.TheConstants.{SUMMARY_HEAD}
-use Rattle.ghs_sweep.specs.Front.{bare_front}
-use Rattle.ghs_sweep.specs.Lines.{line_behind, run_lines}
-use Rattle.ghs_sweep.specs.Summary.{AreSummaryLines}
-use Rattle.ghs_sweep.specs.Sweep.{AreRuns}
+use Rattle.peer_sweep.specs.declared.figures.Figures.{Figures}
+use Rattle.peer_sweep.specs.declared.setup.Setup.{Setup}
+use Rattle.peer_sweep.specs.declared.summary.TheConstants.{SUMMARY_HEAD}
+use Rattle.peer_sweep.specs.Columns.{Layout}
+use Rattle.peer_sweep.specs.Front.{bare_front}
+use Rattle.peer_sweep.specs.Line.{head_line as names_line}
+use Rattle.peer_sweep.specs.Lines.{line_behind, run_lines}
+use Rattle.peer_sweep.specs.Summary.{AreSummaryLines}
+use Rattle.peer_trace.specs.declared.protocol.Protocol.{Protocol}
 use Rattle.ghs_commands.specs.declared.job.Sheet.{Sheet}
 use Rattle.ghs_commands.specs.declared.job.Sheet.TheVariants.{Chart, Runs, Summary}
 use Rattle.ghs_commands.specs.declared.job.SweepOptions.{SweepOptions}
-
--- what its runs have in common
-abbrev pub setup_of : SweepOptions → Setup
-setup_of o = record { schedule_kind = o.schedule_kind; wake = o.wake; turns = o.turns }
+use Rattle.ghs_cli.specs.Swept.{AreRunsBy, by_of, layout_by, setup_of}
 
 -- how many runs it has: one for each seed
 abbrev pub count_of : SweepOptions → ℕ
 count_of o = o.seeds.last - o.seeds.first + 1
 
 -- the names of the columns; lines of JSON say them with each value
-abbrev pub head_of : Form → Sheet → List ℕ
-head_of Text Runs = HEAD_LINE.now
-head_of Text Summary = SUMMARY_HEAD.now
-head_of Text Chart = []
-head_of Json sheet = []
+abbrev pub head_of : Layout → Form → Sheet → List ℕ
+head_of l Text Runs = names_line l
+head_of l Text Summary = SUMMARY_HEAD.now
+head_of l Text Chart = []
+head_of l Json sheet = []
 
 -- what is printed of runs whose seeds rise from the first on: a line for each of them, or their summary, each line behind a front; a
 -- chart has no lines
-abbrev pub AreSheetLines : Sheet → Form → List ℕ → Setup → ℕ → List Figures → List ℕ → Type 0
-AreSheetLines Runs form front setup first runs lines = lines ≡ run_lines (line_behind form front setup) first runs
-AreSheetLines Summary form front setup first runs lines = AreSummaryLines form front runs lines
-AreSheetLines Chart form front setup first runs lines = lines ≡ []
+abbrev pub AreSheetLines : Sheet → Form → List ℕ → Layout → Setup → ℕ → List Figures → List ℕ → Type 0
+AreSheetLines Runs form front l setup first runs lines = lines ≡ run_lines (line_behind form front l setup) first runs
+AreSheetLines Summary form front l setup first runs lines = AreSummaryLines form front runs l.columns lines
+AreSheetLines Chart form front l setup first runs lines = lines ≡ []
 
--- the lines of the sweep of a graph, printed of the runs of just its seeds, each behind a front
-pub record AreSweptLines (o : SweepOptions) (front : List ℕ) (g : Shape) (lines : List ℕ) : Type 0 where
+-- the lines of the sweep of a graph by a protocol, printed of the runs of just its seeds, each behind a front
+pub record AreSweptLines (p : Protocol) (o : SweepOptions) (front : List ℕ) (g : Shape) (lines : List ℕ) : Type 0 where
   pub runs : List Figures
-  pub are : AreRuns g (setup_of o) o.seeds.first runs
+  pub are : AreRunsBy p g (setup_of p o) o.seeds.first runs
   pub all : length runs ≡ count_of o
-  pub printed : AreSheetLines o.sheet o.form front (setup_of o) o.seeds.first runs lines
+  pub printed : AreSheetLines o.sheet o.form front (layout_by p) (setup_of p o) o.seeds.first runs lines
 
--- a seed's run by parts: a line for each of them, each behind a front
+-- a seed's run by GHS by parts: a line for each of them, each behind a front
 pub record IsPartedRun (o : SweepOptions) (by : By) (front : List ℕ) (g : Shape) (seed : ℕ) (lines : List ℕ) : Type 0 where
   pub events : List Event
   pub run : IsPickedBy o.schedule_kind seed o.wake o.turns g events
@@ -62,18 +60,18 @@ pub data ArePartedRuns (o : SweepOptions) (by : By) (front : List ℕ) (g : Shap
       ArePartedRuns o by front g first (n + 1) (text ++ lines)
 
 -- the lines of the sweep of a graph: of its runs, or of their parts
-abbrev pub AreLines : Option By → SweepOptions → List ℕ → Shape → List ℕ → Type 0
-AreLines None o front g lines = AreSweptLines o front g lines
-AreLines (Some by) o front g lines = ArePartedRuns o by front g o.seeds.first (count_of o) lines
+abbrev pub AreLines : Protocol → Option By → SweepOptions → List ℕ → Shape → List ℕ → Type 0
+AreLines p None o front g lines = AreSweptLines p o front g lines
+AreLines p (Some by) o front g lines = ArePartedRuns o by front g o.seeds.first (count_of o) lines
 
 -- the names of its columns
-abbrev pub head_by : Option By → Form → Sheet → List ℕ
-head_by None form sheet = head_of form sheet
-head_by (Some by) Text sheet = head_line by
-head_by (Some by) Json sheet = []
+abbrev pub head_by : Layout → Option By → Form → Sheet → List ℕ
+head_by l None form sheet = head_of l form sheet
+head_by l (Some by) Text sheet = head_line by
+head_by l (Some by) Json sheet = []
 
 -- the text of the sweep that options ask for
-pub record IsSwept (o : SweepOptions) (g : Shape) (text : List ℕ) : Type 0 where
+pub record IsSwept (p : Protocol) (o : SweepOptions) (g : Shape) (text : List ℕ) : Type 0 where
   pub lines : List ℕ
-  pub are : AreLines o.by o (bare_front o.form) g lines
-  pub printed : text ≡ head_by o.by o.form o.sheet ++ lines
+  pub are : AreLines p (by_of p o) o (bare_front o.form) g lines
+  pub printed : text ≡ head_by (layout_by p) (by_of p o) o.form o.sheet ++ lines

@@ -13,7 +13,6 @@ use Rattle.boruvka.specs.Ended.{HasEnded, IsForest, marks_branch}
 use Rattle.boruvka.specs.Words.{words}
 use Rattle.boruvka_node.specs.Boruvka.{boruvka}
 use Rattle.boruvka_protocol.specs.Bound.{bound_of}
-use Rattle.boruvka_sweep.specs.Sweep.{IsSweepText}
 use Rattle.boruvka.specs.Looks.{looks}
 use Rattle.peer_view.specs.RunPage.{IsRunPage}
 use Rattle.ghs_commands.specs.declared.exploring.ExploreOptions.{ExploreOptions}
@@ -66,7 +65,7 @@ ghs_verbs = record {
   cant_replay = running.IsRunCause;
   is_unlawful = λ wake g. ghs.IsFirstUnlawful g wake;
   tells = running.AreSteps;
-  sweeps = λ o. charts.IsSweepText o.sheet o;
+  sweeps = λ o. charts.IsSweepText protocol.Ghs o.sheet o;
   views = viewing.IsView;
   cant_view = viewing.HasNoView;
   views_stored = viewing.IsStoredView;
@@ -76,9 +75,9 @@ ghs_verbs = record {
 }
 
 -- by any protocol: its rules, when a run has ended, its words, the bound on messages, the marks of links, what marked links are at the
--- end, and the protocol as heads of stored runs name it; and what a sweep and a page are
+-- end, and the protocol as heads of stored runs name it; and what a page is
 module _ {S M : Type 0} (r : Rules S M) (has_ended : Shape → Net S M → Type 0) (words : Words S M) (bound : Shape → ℕ)
-    (is_branch : S → ℕ → Bool) (found : Shape → List Key → Type 0) (p : Protocol) (sweeps : SweepOptions → Shape → List ℕ → Type 0)
+    (is_branch : S → ℕ → Bool) (found : Shape → List Key → Type 0) (p : Protocol)
     (is_page : Shape → List Event → ℕ → ℕ → List ℕ → Type 0) where
   abbrev pub any_verbs : Verbs
   any_verbs = record {
@@ -89,7 +88,7 @@ module _ {S M : Type 0} (r : Rules S M) (has_ended : Shape → Net S M → Type 
     cant_replay = any_run.IsRunCause r has_ended;
     is_unlawful = λ wake g. IsFirstUnlawful r g wake;
     tells = any_run.AreSteps r words;
-    sweeps = sweeps;
+    sweeps = λ o. charts.IsSweepText p o.sheet o;
     views = any_view.IsView r has_ended is_page;
     cant_view = any_view.HasNoView r has_ended is_page;
     views_stored = any_view.IsStoredView r has_ended is_page;
@@ -97,10 +96,6 @@ module _ {S M : Type 0} (r : Rules S M) (has_ended : Shape → Net S M → Type 
     explores = λ o. any_explore.IsFound r words.kind bound p o.finding o;
     cant_explore = any_explore.FindsNothing r;
   }
-
--- the figures of the runs of a sweep's seeds, by Borůvka in step
-abbrev pub boruvka_sweeps : SweepOptions → Shape → List ℕ → Type 0
-boruvka_sweeps o g output = IsSweepText g (record { wake = o.wake; turns = o.turns }) o.seeds.first o.seeds.last output
 
 -- a run that has turns for all its events isn't stopped at its turns
 abbrev pub NeverStops : Verbs → Type 0
@@ -110,5 +105,5 @@ NeverStops v = (o : RunOptions) (g : Shape) → v.stops o g serve.TurnLimit → 
 abbrev pub verbs_of : Protocol → Verbs
 verbs_of protocol.Ghs = ghs_verbs
 verbs_of protocol.Boruvka =
-    any_verbs boruvka HasEnded words bound_of marks_branch IsForest protocol.Boruvka boruvka_sweeps
+    any_verbs boruvka HasEnded words bound_of marks_branch IsForest protocol.Boruvka
     (IsRunPage boruvka words looks bound_of)

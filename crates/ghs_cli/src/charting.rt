@@ -2,21 +2,22 @@
 ghost use Rattle.ghs_commands.specs.Job.{AreSweepLimits};
 ghost use Rattle.ghs_cli.specs.Charts.{IsCaption, IsNamelessChart, IsPanel, IsPanelOf};
 ghost use Rattle.ghs_cli.specs.Networks.{ArePanels, IsChart};
-ghost use Rattle.ghs_sweep.specs.Figures.{HasSmallWeight};
+ghost use Rattle.peer_sweep.specs.Figures.{LeavesRoom};
 ghost use Rattle.std.specs.Prelude.{◌≡◌, ◌≤◌, ◌^◌, ◌++◌, All, [], List, ℕ, length, string_bytes, IfOk};
 
 use crate::networks::Network;
 use crate::progress::tell_networks;
+use crate::swept::bound_by;
 use crate::sweeping::runs_of;
 use ghs_chart::chart::put_chart_head;
 use ghs_chart::panel::{Caption, put_panel};
 use ghs_chart::texts::CHART_TAIL;
 use ghs_commands::job::SweepOptions;
-use ghs_graph::bounds::bound;
 use ghs_graph::graph::Graph;
-use ghs_sweep::figures::Figures;
-use ghs_sweep::measure::Measure;
-use ghs_sweep::summary::rising_of;
+use peer_sweep::figures::Figures;
+use peer_sweep::measure::Measure;
+use peer_sweep::summary::rising_of;
+use peer_trace::protocol::Protocol;
 use std::alloc::{AllocError, Global};
 use std::thread::Threads;
 
@@ -24,15 +25,16 @@ use std::thread::Threads;
 pub(crate) fn nameless_chart<R: Threads + Sync + Eprint>(
     rt: &R,
     alloc: Global,
+    protocol: Protocol,
     options: &SweepOptions,
     graph: &Graph,
 ) -> Result<Vec<u8>, AllocError>
     requires { AreSweepLimits options.now }
-    ensures { IfOk result (λ text. IsNamelessChart options.now graph.now text.items) }
+    ensures { IfOk result (λ text. IsNamelessChart protocol options.now graph.now text.items) }
 {
     let mut text = Vec::new(alloc);
     put_chart_head(&mut text, 1)?;
-    put_network_panel(rt, alloc, &mut text, options, 0, "", graph)?;
+    put_network_panel(rt, alloc, &mut text, protocol, options, 0, "", graph)?;
     text.extend_from_slice(CHART_TAIL)?;
     Ok(text)
 }
@@ -41,15 +43,16 @@ pub(crate) fn nameless_chart<R: Threads + Sync + Eprint>(
 pub(crate) fn chart_text<R: Threads + Sync + Eprint>(
     rt: &R,
     alloc: Global,
+    protocol: Protocol,
     options: &SweepOptions,
     networks: &[Network],
 ) -> Result<Vec<u8>, AllocError>
     requires { AreSweepLimits options.now }
-    ensures { IfOk result (λ text. IsChart options.now networks.now text.items) }
+    ensures { IfOk result (λ text. IsChart protocol options.now networks.now text.items) }
 {
     let mut text = Vec::new(alloc);
     put_chart_head(&mut text, networks.len() as u64)?;
-    put_panels(rt, alloc, &mut text, options, networks)?;
+    put_panels(rt, alloc, &mut text, protocol, options, networks)?;
     text.extend_from_slice(CHART_TAIL)?;
     Ok(text)
 }
@@ -60,15 +63,16 @@ fn put_panels<R: Threads + Sync + Eprint>(
     rt: &R,
     alloc: Global,
     text: &mut Vec<u8>,
+    protocol: Protocol,
     options: &SweepOptions,
     networks: &[Network],
 ) -> Result<(), AllocError>
     requires { AreSweepLimits options.now }
-    ensures { IfOk result (λ _. (panels : List ℕ) × ArePanels options.now networks.now panels × (text.new.items ≡ text.old.items ++ panels)) }
+    ensures { IfOk result (λ _. (panels : List ℕ) × ArePanels protocol options.now networks.now panels × (text.new.items ≡ text.old.items ++ panels)) }
 {
     for (place, network) in networks.iter().enumerate() {
         let name = network.name.as_str();
-        put_network_panel(rt, alloc, text, options, place as u64, name, &network.graph)?;
+        put_network_panel(rt, alloc, text, protocol, options, place as u64, name, &network.graph)?;
         tell_networks(rt, options.progress, place + 1, networks.len());
     }
     Ok(())
@@ -79,16 +83,17 @@ fn put_network_panel<R: Threads + Sync + Eprint>(
     rt: &R,
     alloc: Global,
     text: &mut Vec<u8>,
+    protocol: Protocol,
     options: &SweepOptions,
     place: u64,
     name: &str,
     graph: &Graph,
 ) -> Result<(), AllocError>
     requires { AreSweepLimits options.now }
-    ensures { IfOk result (λ _. (panel : List ℕ) × IsPanel options.now place name.now graph.now panel × (text.new.items ≡ text.old.items ++ panel)) }
+    ensures { IfOk result (λ _. (panel : List ℕ) × IsPanel protocol options.now place name.now graph.now panel × (text.new.items ≡ text.old.items ++ panel)) }
 {
-    let runs = runs_of(rt, alloc, graph, options)?;
-    put_runs_panel(alloc, text, place, name, graph, &runs)?;
+    let runs = runs_of(rt, alloc, protocol, graph, options)?;
+    put_runs_panel(alloc, text, protocol, place, name, graph, &runs)?;
     Ok(())
 }
 
@@ -96,6 +101,7 @@ fn put_network_panel<R: Threads + Sync + Eprint>(
 fn put_runs_panel(
     alloc: Global,
     text: &mut Vec<u8>,
+    protocol: Protocol,
     place: u64,
     name: &str,
     graph: &Graph,
@@ -103,10 +109,10 @@ fn put_runs_panel(
 ) -> Result<(), AllocError>
     requires some { 1 ≤ length runs.now }
     requires few { length runs.now ≤ 2 ^ 32 }
-    requires small { All HasSmallWeight runs.now }
-    ensures { IfOk result (λ _. (panel : List ℕ) × IsPanelOf place name.now graph.now runs.now panel × (text.new.items ≡ text.old.items ++ panel)) }
+    requires small { All LeavesRoom runs.now }
+    ensures { IfOk result (λ _. (panel : List ℕ) × IsPanelOf protocol place name.now graph.now runs.now panel × (text.new.items ≡ text.old.items ++ panel)) }
 {
-    let caption = caption_of(graph, runs.len() as u64);
+    let caption = caption_of(protocol, graph, runs.len() as u64);
     let sent = rising_of(alloc, Measure::Sent, runs)?;
     let requeued = rising_of(alloc, Measure::Requeued, runs)?;
     let chains = rising_of(alloc, Measure::Chain, runs)?;
@@ -114,13 +120,13 @@ fn put_runs_panel(
 }
 
 /// What is said of a network and so many runs.
-fn caption_of(graph: &Graph, runs: u64) -> Caption
-    ensures { IsCaption graph.now runs result }
+fn caption_of(protocol: Protocol, graph: &Graph, runs: u64) -> Caption
+    ensures { IsCaption protocol graph.now runs result }
 {
     Caption {
         nodes: graph.nodes(),
         links: graph.links(),
         runs,
-        bound: bound(graph.nodes(), graph.links()),
+        bound: bound_by(protocol, graph),
     }
 }

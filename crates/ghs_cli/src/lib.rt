@@ -27,5 +27,6 @@ mod running;
 pub mod serve;
 mod stepping;
 mod sweeping;
+mod swept;
 mod timing;
 mod viewing;

@@ -1,8 +1,8 @@
 //! Sweeps by parts: the messages of each run by node or level, or how often each rule applied.
 ghost use Rattle.ghs_commands.specs.Job.{AreSweepLimits};
-ghost use Rattle.ghs_cli.specs.Sweeping.{ArePartedRuns, IsPartedRun, count_of, AreLines};
+ghost use Rattle.ghs_cli.specs.Sweeping.{ArePartedRuns, IsPartedRun, count_of};
 ghost use Rattle.ghs_picking.specs.Picking.{IsPickedBy};
-ghost use Rattle.std.specs.Prelude.{◌≡◌, ◌+◌, ◌-◌, ◌<◌, ◌≤◌, ◌^◌, ◌++◌, List, ℕ, Some, IfOk};
+ghost use Rattle.std.specs.Prelude.{◌≡◌, ◌+◌, ◌-◌, ◌<◌, ◌≤◌, ◌^◌, ◌++◌, List, ℕ, IfOk};
 ghost use Rattle.std.specs.Thread.{IsSync};
 
 use crate::progress::tell_seeds;
@@ -13,7 +13,7 @@ use ghs_graph::graph::Graph;
 use ghs_parts::lines::put_run;
 use ghs_picking::picking::run_by_seed;
 use ghs_sched::fault::RunFault;
-use ghs_sweep::runs::share_of;
+use peer_sweep::runs::share_of;
 use ghs_world::world::World;
 use std::alloc::{AllocError, Global};
 use std::thread::{Threads, join};
@@ -32,9 +32,8 @@ pub(crate) fn put_parted<R: Threads + Sync + Eprint>(
     front: &[u8],
     graph: &Graph,
 ) -> Result<(), AllocError>
-    requires limits { AreSweepLimits options.now }
-    requires by { options.now.by ≡ Some by }
-    ensures { IfOk result (λ _. (lines : List ℕ) × AreLines options.now.by options.now front.now graph.now lines × (text.new.items ≡ text.old.items ++ lines)) }
+    requires { AreSweepLimits options.now }
+    ensures { IfOk result (λ _. (lines : List ℕ) × ArePartedRuns options.now by front.now graph.now options.now.seeds.first (count_of options.now) lines × (text.new.items ≡ text.old.items ++ lines)) }
 {
     let lines = parted(rt, alloc, options, by, front, graph)?;
     text.extend_from_slice(&lines)?;

@@ -2,10 +2,10 @@
 ghost use Rattle.ghs_commands.specs.Job.{AreSweepLimits};
 ghost use Rattle.ghs_cli.specs.Charts.{IsSweepText};
 ghost use Rattle.ghs_cli.specs.Serving.{IsGraphCause, IsOfText, is_write};
-ghost use Rattle.ghs_cli.specs.Sweeping.{AreLines, AreSheetLines, AreSweptLines, IsSwept, count_of, head_by, head_of, setup_of};
-ghost use Rattle.ghs_cli.specs.Verbs.{boruvka_sweeps, verbs_of};
-ghost use Rattle.ghs_sweep.specs.Figures.{HasSmallWeight};
-ghost use Rattle.ghs_sweep.specs.Sweep.{AreRuns};
+ghost use Rattle.ghs_cli.specs.Swept.{AreRunsBy, by_of, layout_by, setup_of};
+ghost use Rattle.ghs_cli.specs.Sweeping.{AreLines, AreSheetLines, AreSweptLines, IsSwept, count_of, head_by, head_of};
+ghost use Rattle.ghs_cli.specs.Verbs.{verbs_of};
+ghost use Rattle.peer_sweep.specs.Figures.{LeavesRoom};
 ghost use Rattle.ghs_cli.specs.declared.fault.ServeFault.{ServeFault};
 ghost use Rattle.std.specs.Prelude.{◌≡◌, ◌≤◌, ◌++◌, ◌↔◌, All, List, ℕ, false, length, true, IfErr, IfOk, IfSome, IsErrOf};
 
@@ -14,7 +14,7 @@ use crate::fault::ServeFault;
 use crate::parting::put_parted;
 use crate::progress::tell_seeds;
 use crate::reading::graph_of;
-use boruvka_sweep::sweep;
+use crate::swept::{by_of, run_seeds_by, setup_of, table_by};
 use ghs_choices::by::By;
 use ghs_choices::form::Form;
 use ghs_commands::job::{Sheet, SweepOptions};
@@ -22,13 +22,13 @@ use ghs_commands::values::Seeds;
 use ghs_gr::device::Source;
 use ghs_graph::graph::Graph;
 use ghs_parts::line::head_line;
-use ghs_sweep::figures::Figures;
-use ghs_sweep::front::bare_front;
-use ghs_sweep::line::HEAD_LINE;
-use ghs_sweep::lines::put_runs;
-use ghs_sweep::runs::run_seeds;
-use ghs_sweep::seeded::Setup;
-use ghs_sweep::summary::{SUMMARY_HEAD, put_summary};
+use peer_sweep::figures::Figures;
+use peer_sweep::front::bare_front;
+use peer_sweep::line::put_head;
+use peer_sweep::lines::put_runs;
+use peer_sweep::setup::Setup;
+use peer_sweep::summary::{SUMMARY_HEAD, put_summary};
+use peer_sweep::table::Table;
 use peer_trace::protocol::Protocol;
 use std::alloc::{AllocError, Global};
 use std::thread::Threads;
@@ -52,11 +52,11 @@ pub(crate) fn sweep_text_of<S: Source, R: Threads + Sync + Eprint>(
     ensures read { IsErrOf result ServeFault.Read ↔ (S.has_failed graph.new ≡ true) }
 {
     let graph = graph_of(alloc, graph)?;
-    Ok(swept_by(rt, alloc, protocol, options, &graph)?)
+    Ok(sweep_text(rt, alloc, protocol, options, &graph)?)
 }
 
-/// What a sweep of a graph by a protocol prints.
-fn swept_by<R: Threads + Sync + Eprint>(
+/// What a sweep of a graph by a protocol prints: lines, or a chart.
+fn sweep_text<R: Threads + Sync + Eprint>(
     rt: &R,
     alloc: Global,
     protocol: Protocol,
@@ -64,40 +64,11 @@ fn swept_by<R: Threads + Sync + Eprint>(
     graph: &Graph,
 ) -> Result<Vec<u8>, AllocError>
     requires { AreSweepLimits options.now }
-    ensures { IfOk result (λ text. (verbs_of protocol).sweeps options.now graph.now text.items) }
-{
-    match protocol {
-        Protocol::Ghs => sweep_text(rt, alloc, options, graph),
-        Protocol::Boruvka => boruvka_text(alloc, options, graph),
-    }
-}
-
-/// What a sweep of a graph by Borůvka in step prints.
-fn boruvka_text(alloc: Global, options: &SweepOptions, graph: &Graph) -> Result<Vec<u8>, AllocError>
-    requires { AreSweepLimits options.now }
-    ensures { IfOk result (λ text. boruvka_sweeps options.now graph.now text.items) }
-{
-    let Seeds { first, last } = options.seeds;
-    let setup = sweep::Setup {
-        wake: options.wake,
-        turns: options.turns,
-    };
-    sweep::sweep_text(alloc, graph, setup, first, last)
-}
-
-/// What a sweep of a graph by GHS prints: lines, or a chart.
-fn sweep_text<R: Threads + Sync + Eprint>(
-    rt: &R,
-    alloc: Global,
-    options: &SweepOptions,
-    graph: &Graph,
-) -> Result<Vec<u8>, AllocError>
-    requires { AreSweepLimits options.now }
-    ensures { IfOk result (λ text. IsSweepText options.now.sheet options.now graph.now text.items) }
+    ensures { IfOk result (λ text. IsSweepText protocol options.now.sheet options.now graph.now text.items) }
 {
     match options.sheet {
-        Sheet::Runs | Sheet::Summary => swept_text(rt, alloc, options, graph),
-        Sheet::Chart => nameless_chart(rt, alloc, options, graph),
+        Sheet::Runs | Sheet::Summary => swept_text(rt, alloc, protocol, options, graph),
+        Sheet::Chart => nameless_chart(rt, alloc, protocol, options, graph),
     }
 }
 
@@ -105,26 +76,34 @@ fn sweep_text<R: Threads + Sync + Eprint>(
 fn swept_text<R: Threads + Sync + Eprint>(
     rt: &R,
     alloc: Global,
+    protocol: Protocol,
     options: &SweepOptions,
     graph: &Graph,
 ) -> Result<Vec<u8>, AllocError>
     requires { AreSweepLimits options.now }
-    ensures { IfOk result (λ text. IsSwept options.now graph.now text.items) }
+    ensures { IfOk result (λ text. IsSwept protocol options.now graph.now text.items) }
 {
-    let mut text = Vec::from_slice(alloc, head_by(options.by, options.form, options.sheet))?;
+    let table = table_by(alloc, protocol)?;
+    let mut text = Vec::new(alloc);
+    put_head_by(&mut text, &table, by_of(protocol, options), options)?;
     let front = bare_front(options.form);
-    put_lines_of(rt, alloc, &mut text, options, front, graph)?;
+    put_lines_of(rt, alloc, &mut text, protocol, options, &table, front, graph)?;
     Ok(text)
 }
 
-/// The names of the columns, as a line, of runs or of their parts.
-pub(crate) fn head_by(by: Option<By>, form: Form, sheet: Sheet) -> &'static [u8]
-    ensures { result.now ≡ head_by by form sheet }
+/// Puts the names of the columns behind a text, as a line, of runs or of their parts.
+pub(crate) fn put_head_by(
+    text: &mut Vec<u8>,
+    table: &Table,
+    by: Option<By>,
+    options: &SweepOptions,
+) -> Result<(), AllocError>
+    ensures { IfOk result (λ _. text.new.items ≡ text.old.items ++ head_by table.now by options.now.form options.now.sheet) }
 {
-    match (by, form) {
-        (None, _) => head_of(form, sheet),
-        (Some(by), Form::Text) => head_line(by),
-        (Some(_), Form::Json) => b"",
+    match (by, options.form) {
+        (None, _) => put_head_of(text, table, options),
+        (Some(by), Form::Text) => text.extend_from_slice(head_line(by)),
+        (Some(_), Form::Json) => Ok(()),
     }
 }
 
@@ -134,31 +113,41 @@ pub(crate) fn put_lines_of<R: Threads + Sync + Eprint>(
     rt: &R,
     alloc: Global,
     text: &mut Vec<u8>,
+    protocol: Protocol,
     options: &SweepOptions,
+    table: &Table,
     front: &[u8],
     graph: &Graph,
 ) -> Result<(), AllocError>
-    requires { AreSweepLimits options.now }
-    ensures { IfOk result (λ _. (lines : List ℕ) × AreLines options.now.by options.now front.now graph.now lines × (text.new.items ≡ text.old.items ++ lines)) }
+    requires limits { AreSweepLimits options.now }
+    requires table { table.now ≡ layout_by protocol }
+    ensures { IfOk result (λ _. (lines : List ℕ) × AreLines protocol (by_of protocol options.now) options.now front.now graph.now lines × (text.new.items ≡ text.old.items ++ lines)) }
 {
-    match options.by {
+    match by_of(protocol, options) {
         None => {
-            put_swept(rt, alloc, text, options, front, graph)?;
+            put_swept(rt, alloc, text, protocol, options, table, front, graph)?;
             Ok(())
         }
-        Some(by) => put_parted(rt, alloc, text, options, by, front, graph),
+        Some(by) => {
+            put_parted(rt, alloc, text, options, by, front, graph)?;
+            Ok(())
+        }
     }
 }
 
 /// The names of the columns, as a line; lines of JSON say them with each value.
-fn head_of(form: Form, sheet: Sheet) -> &'static [u8]
-    ensures { result.now ≡ head_of form sheet }
+fn put_head_of(
+    text: &mut Vec<u8>,
+    table: &Table,
+    options: &SweepOptions,
+) -> Result<(), AllocError>
+    ensures { IfOk result (λ _. text.new.items ≡ text.old.items ++ head_of table.now options.now.form options.now.sheet) }
 {
-    match (form, sheet) {
-        (Form::Text, Sheet::Runs) => HEAD_LINE,
-        (Form::Text, Sheet::Summary) => SUMMARY_HEAD,
-        (Form::Text, Sheet::Chart) => b"",
-        (Form::Json, _) => b"",
+    match (options.form, options.sheet) {
+        (Form::Text, Sheet::Runs) => put_head(text, table),
+        (Form::Text, Sheet::Summary) => text.extend_from_slice(SUMMARY_HEAD),
+        (Form::Text, Sheet::Chart) => Ok(()),
+        (Form::Json, _) => Ok(()),
     }
 }
 
@@ -167,15 +156,19 @@ fn put_swept<R: Threads + Sync + Eprint>(
     rt: &R,
     alloc: Global,
     text: &mut Vec<u8>,
+    protocol: Protocol,
     options: &SweepOptions,
+    table: &Table,
     front: &[u8],
     graph: &Graph,
 ) -> Result<(), AllocError>
-    requires { AreSweepLimits options.now }
-    ensures { IfOk result (λ _. (lines : List ℕ) × AreSweptLines options.now front.now graph.now lines × (text.new.items ≡ text.old.items ++ lines)) }
+    requires limits { AreSweepLimits options.now }
+    requires table { table.now ≡ layout_by protocol }
+    ensures { IfOk result (λ _. (lines : List ℕ) × AreSweptLines protocol options.now front.now graph.now lines × (text.new.items ≡ text.old.items ++ lines)) }
 {
-    let runs = runs_of(rt, alloc, graph, options)?;
-    put_sheet(alloc, text, options, front, &runs)?;
+    let runs = runs_of(rt, alloc, protocol, graph, options)?;
+    let setup = setup_of(protocol, options);
+    put_sheet(alloc, text, options, setup, table, front, &runs)?;
     Ok(())
 }
 
@@ -185,17 +178,19 @@ fn put_sheet(
     alloc: Global,
     text: &mut Vec<u8>,
     options: &SweepOptions,
+    setup: Setup,
+    table: &Table,
     front: &[u8],
     runs: &[Figures],
 ) -> Result<(), AllocError>
     requires limits { AreSweepLimits options.now }
     requires all { length runs.now ≡ count_of options.now }
-    requires small { All HasSmallWeight runs.now }
-    ensures { IfOk result (λ _. (lines : List ℕ) × AreSheetLines options.now.sheet options.now.form front.now (setup_of options.now) options.now.seeds.first runs.now lines × (text.new.items ≡ text.old.items ++ lines)) }
+    requires small { All LeavesRoom runs.now }
+    ensures { IfOk result (λ _. (lines : List ℕ) × AreSheetLines options.now.sheet options.now.form front.now table.now setup options.now.seeds.first runs.now lines × (text.new.items ≡ text.old.items ++ lines)) }
 {
     match options.sheet {
-        Sheet::Runs => put_lines(text, options, front, runs),
-        Sheet::Summary => put_measures(alloc, text, options, front, runs),
+        Sheet::Runs => put_lines(text, options, setup, table, front, runs),
+        Sheet::Summary => put_measures(alloc, text, options, setup, table, front, runs),
         Sheet::Chart => Ok(()),
     }
 }
@@ -204,17 +199,19 @@ fn put_sheet(
 fn put_lines(
     text: &mut Vec<u8>,
     options: &SweepOptions,
+    setup: Setup,
+    table: &Table,
     front: &[u8],
     runs: &[Figures],
 ) -> Result<(), AllocError>
     requires limits { AreSweepLimits options.now }
     requires all { length runs.now ≡ count_of options.now }
     requires sheet { options.now.sheet ≡ Sheet.Runs }
-    ensures { IfOk result (λ _. (lines : List ℕ) × AreSheetLines options.now.sheet options.now.form front.now (setup_of options.now) options.now.seeds.first runs.now lines × (text.new.items ≡ text.old.items ++ lines)) }
+    ensures { IfOk result (λ _. (lines : List ℕ) × AreSheetLines options.now.sheet options.now.form front.now table.now setup options.now.seeds.first runs.now lines × (text.new.items ≡ text.old.items ++ lines)) }
 {
     let Seeds { first, last } = options.seeds;
     prove!(first <= last);
-    put_runs(text, options.form, front, setup_of(options), first, runs)?;
+    put_runs(text, options.form, front, table, setup, first, runs)?;
     Ok(())
 }
 
@@ -223,18 +220,20 @@ fn put_measures(
     alloc: Global,
     text: &mut Vec<u8>,
     options: &SweepOptions,
+    setup: Setup,
+    table: &Table,
     front: &[u8],
     runs: &[Figures],
 ) -> Result<(), AllocError>
     requires limits { AreSweepLimits options.now }
     requires all { length runs.now ≡ count_of options.now }
-    requires small { All HasSmallWeight runs.now }
+    requires small { All LeavesRoom runs.now }
     requires sheet { options.now.sheet ≡ Sheet.Summary }
-    ensures { IfOk result (λ _. (lines : List ℕ) × AreSheetLines options.now.sheet options.now.form front.now (setup_of options.now) options.now.seeds.first runs.now lines × (text.new.items ≡ text.old.items ++ lines)) }
+    ensures { IfOk result (λ _. (lines : List ℕ) × AreSheetLines options.now.sheet options.now.form front.now table.now setup options.now.seeds.first runs.now lines × (text.new.items ≡ text.old.items ++ lines)) }
 {
     let Seeds { first, last } = options.seeds;
     prove!(first <= last);
-    put_summary(alloc, text, options.form, front, runs)?;
+    put_summary(alloc, text, options.form, front, table, runs)?;
     Ok(())
 }
 
@@ -243,22 +242,23 @@ fn put_measures(
 pub(crate) fn runs_of<R: Threads + Sync + Eprint>(
     rt: &R,
     alloc: Global,
+    protocol: Protocol,
     graph: &Graph,
     options: &SweepOptions,
 ) -> Result<Vec<Figures>, AllocError>
     requires { AreSweepLimits options.now }
-    ensures runs { IfOk result (λ runs. AreRuns graph.now (setup_of options.now) options.now.seeds.first runs.items) }
+    ensures runs { IfOk result (λ runs. AreRunsBy protocol graph.now (setup_of protocol options.now) options.now.seeds.first runs.items) }
     ensures all { IfOk result (λ runs. length runs.items ≡ count_of options.now) }
 {
     let Seeds { first, last } = options.seeds;
     let count = last - first + 1;
     let threads = options.workers.max(1);
-    let setup = setup_of(options);
+    let setup = setup_of(protocol, options);
     let mut runs = Vec::new(alloc);
     let mut left = count;
     while left > 0 {
         let batch = batch_of(&runs, threads).min(left);
-        run_seeds(rt, alloc, graph, setup, first, &mut runs, batch, threads)?;
+        run_seeds_by(rt, alloc, protocol, graph, setup, first, &mut runs, batch, threads)?;
         left -= batch;
         tell_seeds(rt, options.progress, left, count);
     }
@@ -276,15 +276,4 @@ fn batch_of(runs: &[Figures], threads: u32) -> u64
         None => 1,
     };
     each.max(1) * u64::from(threads)
-}
-
-/// What the runs of a sweep have in common.
-pub(crate) fn setup_of(options: &SweepOptions) -> Setup
-    ensures { result ≡ setup_of options.now }
-{
-    Setup {
-        schedule_kind: options.schedule_kind,
-        wake: options.wake,
-        turns: options.turns,
-    }
 }

@@ -123,13 +123,25 @@ sweep_in_step-taken : kinds_of (in_step []) ≡ []
 unfolding program clap_on_literals
 sweep_in_step-taken = refl
 
-summary_in_step-refused : kinds_of (in_step (codes "--print" ∷ codes "summary" ∷ [])) ≡ kind.InvalidValue ∷ []
+summary_in_step-taken : kinds_of (in_step (codes "--print" ∷ codes "summary" ∷ [])) ≡ []
 unfolding program clap_on_literals
-summary_in_step-refused = refl
+summary_in_step-taken = refl
 
-json_of_a_sweep-refused : kinds_of (in_step (codes "--json" ∷ [])) ≡ kind.InvalidValue ∷ []
+json_of_a_sweep-taken : kinds_of (in_step (codes "--json" ∷ codes "--names" ∷ [])) ≡ []
 unfolding program clap_on_literals
-json_of_a_sweep-refused = refl
+json_of_a_sweep-taken = refl
+
+threads_of_a_sweep-taken : kinds_of (in_step (codes "--workers" ∷ codes "8" ∷ codes "--progress" ∷ [])) ≡ []
+unfolding program clap_on_literals
+threads_of_a_sweep-taken = refl
+
+parts_in_step-refused : kinds_of (in_step (codes "--by" ∷ codes "node" ∷ [])) ≡ kind.InvalidValue ∷ []
+unfolding program clap_on_literals
+parts_in_step-refused = refl
+
+patience_in_step-refused : kinds_of (in_step (codes "--schedule" ∷ codes "patient" ∷ [])) ≡ kind.InvalidValue ∷ []
+unfolding program clap_on_literals
+patience_in_step-refused = refl
 
 runs_in_step-taken : kinds_of (in_step (codes "--print" ∷ codes "runs" ∷ [])) ≡ []
 unfolding program clap_on_literals
@@ -139,6 +151,6 @@ one_file_in_step-taken : kinds_of (in_step (codes "a" ∷ [])) ≡ []
 unfolding program clap_on_literals
 one_file_in_step-taken = refl
 
-two_files_in_step-refused : kinds_of (in_step (codes "a" ∷ codes "b" ∷ [])) ≡ kind.InvalidValue ∷ []
+two_files_in_step-taken : kinds_of (in_step (codes "a" ∷ codes "b" ∷ [])) ≡ []
 unfolding program clap_on_literals
-two_files_in_step-refused = refl
+two_files_in_step-taken = refl

@@ -40,7 +40,7 @@ use Rattle.ghs_commands.specs.declared.job.Task.TheVariants as task
 use Rattle.ghs_commands.specs.declared.job.ViewOptions.{ViewOptions}
 use Rattle.ghs_commands.specs.declared.two_seeds.TwoSeeds.{TwoSeeds}
 use Rattle.ghs_commands.specs.declared.values.Seeds.{Seeds}
-use Rattle.ghs_commands.specs.Networks.{are_read_once, are_several, named_of, values_in}
+use Rattle.ghs_commands.specs.Networks.{are_read_once, named_of, values_in}
 use Rattle.ghs_choices.specs.declared.by.By.{By}
 use Rattle.peer_trace.specs.Protocol.{protocol_named}
 use Rattle.peer_trace.specs.declared.protocol.Protocol.{Protocol}
@@ -354,24 +354,27 @@ has_network command =
 abbrev pub has_seeds : Used → Bool
 has_seeds command = is_range (value_in (codes "seeds") command) && are_two (value_in (codes "pair") command)
 
--- how a network is run goes with every protocol: no threads, no other schedule than the seeded, no cores, nothing is told of the
--- run; an exploration may tell how far it has come, and only an exploration has a limit
+-- only a sweep has a sheet
+abbrev pub is_sweep : Used → Bool
+is_sweep command = not (is_none (value_in (codes "sheet") command))
+
+-- only an exploration has a limit
+abbrev pub is_exploration : Used → Bool
+is_exploration command = not (is_none (value_in (codes "limit") command))
+
+-- how a network is run goes with every protocol: no threads but those of a sweep, no other schedule than the seeded, no cores; nothing is
+-- told of the run, but a sweep and an exploration may tell how far they have come
 abbrev pub runs_so : Used → Bool
 runs_so command =
-    is_number 0 0 (value_in (codes "workers") command)
+    (is_sweep command || is_number 0 0 (value_in (codes "workers") command))
     && is_among (codes "seeded" ∷ []) (value_in (codes "schedule") command)
     && not (is_said (codes "true") (value_in (codes "core") command))
-    && (not (is_none (value_in (codes "limit") command)) || not (is_said (codes "true") (value_in (codes "progress") command)))
+    && (is_sweep command || is_exploration command || not (is_said (codes "true") (value_in (codes "progress") command)))
     && not (is_said (codes "true") (value_in (codes "tally") command))
 
--- what is swept does: one network, without its name, and the figures of its runs alone, by no parts, as text; only a sweep has a sheet
+-- what is swept does: the figures of runs, by no parts
 abbrev pub sweeps_so : Used → Bool
-sweeps_so command =
-    is_among (codes "runs" ∷ []) (value_in (codes "sheet") command)
-    && is_none (value_in (codes "by") command)
-    && not (is_said (codes "true") (value_in (codes "names") command))
-    && not (are_several (values_in (codes "FILE") command))
-    && (is_none (value_in (codes "sheet") command) || not (is_said (codes "true") (value_in (codes "json") command)))
+sweeps_so command = is_none (value_in (codes "by") command)
 
 -- what is shown does: one run
 abbrev pub shows_so : Used → Bool

@@ -1,10 +1,9 @@
 //! What doesn't go with every protocol.
 ghost use Rattle.clap.specs.Words.{subcommand_rows_of};
-ghost use Rattle.ghs_commands.specs.Job.{fits_every, runs_so, shows_so, sweeps_so};
+ghost use Rattle.ghs_commands.specs.Job.{fits_every, is_exploration, is_sweep, runs_so, shows_so, sweeps_so};
 ghost use Rattle.std.specs.Prelude.{◌≡◌, is_none};
 
 use crate::job::value_of;
-use crate::networks::{are_several, values_of};
 use crate::parts::is_said;
 use crate::values::{is_among, is_number};
 use clap::ArgMatches;
@@ -22,17 +21,19 @@ pub(crate) fn stranger_in<'a>(matches: &ArgMatches<'a>) -> Option<&'static str>
     }
 }
 
-/// The first that says how a network is run, or what is told of its run.
+/// The first that says how a network is run, or what is told of its run. A sweep shares its seeds among threads, and tells how
+/// far it has come, as an exploration does.
 fn stranger_of_run<'a>(matches: &ArgMatches<'a>) -> Option<&'static str>
     ensures { is_none result ≡ runs_so (subcommand_rows_of matches.now) }
 {
-    if !is_number(value_of(matches, "workers"), 0, 0) {
+    if !is_sweep(matches) && !is_number(value_of(matches, "workers"), 0, 0) {
         Some("--workers <workers>")
     } else if !is_among(value_of(matches, "schedule"), &["seeded"]) {
         Some("--schedule <schedule>")
     } else if is_said(value_of(matches, "core"), "true") {
         Some("--core")
-    } else if value_of(matches, "limit").is_none()
+    } else if !is_sweep(matches)
+        && !is_exploration(matches)
         && is_said(value_of(matches, "progress"), "true")
     {
         Some("--progress")
@@ -43,22 +44,27 @@ fn stranger_of_run<'a>(matches: &ArgMatches<'a>) -> Option<&'static str>
     }
 }
 
+/// Whether the command is a sweep: only a sweep has a sheet.
+fn is_sweep<'a>(matches: &ArgMatches<'a>) -> bool
+    ensures { result ≡ is_sweep (subcommand_rows_of matches.now) }
+{
+    value_of(matches, "sheet").is_some()
+}
+
+/// Whether it is an exploration: only an exploration has a limit.
+fn is_exploration<'a>(matches: &ArgMatches<'a>) -> bool
+    ensures { result ≡ is_exploration (subcommand_rows_of matches.now) }
+{
+    value_of(matches, "limit").is_some()
+}
+
 /// The first that says what is swept, or what is printed of a sweep.
 fn stranger_of_sweep<'a>(matches: &ArgMatches<'a>) -> Option<&'static str>
     ensures { is_none result ≡ sweeps_so (subcommand_rows_of matches.now) }
 {
-    if !is_among(value_of(matches, "sheet"), &["runs"]) {
-        Some("--print <sheet>")
-    } else if value_of(matches, "by").is_some() {
-        Some("--by <by>")
-    } else if is_said(value_of(matches, "names"), "true") {
-        Some("--names")
-    } else if are_several(values_of(matches, "FILE")) {
-        Some("[FILE]...")
-    } else if value_of(matches, "sheet").is_some() && is_said(value_of(matches, "json"), "true") {
-        Some("--json")
-    } else {
-        None
+    match value_of(matches, "by") {
+        Some(_) => Some("--by <by>"),
+        None => None,
     }
 }
 

@@ -9,7 +9,7 @@ loop-place-init g c = ([], NoPanel, sym (append-nil c.args.text.now.items))
 pub loop-place-preserved : goal.loop-place-preserved
 loop-place-preserved g c =
     let named : c.as_str-name.result.now ≡ string_bytes c.index-networks-place.result.name = search rules in
-    one_panel_more c.args.options.now c.args.networks.now c.loop-place.place c.index-networks-place.result c.as_str-name.result.now
+    one_panel_more c.args.protocol c.args.options.now c.args.networks.now c.loop-place.place c.index-networks-place.result c.as_str-name.result.now
     c.args.text.now.items
     c.loop-place.text.items c.put_network_panel.new.text.items c.index-networks-place.is c.loop-place-test.true named c.loop-place.invariant
     c.in_ok-put_network_panel.ensures

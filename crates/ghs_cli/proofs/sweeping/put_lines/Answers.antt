@@ -3,5 +3,5 @@ use Rattle.ghs_cli.proofs.sweeping.put_lines.Goals as goal
 
 pub returns : goal.returns
 returns c =
-    runs_behind c.args.options.now c.args.front.now c.setup_of.result c.args.runs.now c.args.text.now.items c.put_runs.new.text.items c.requires.sheet
-    c.setup_of.ensures c.in_ok-put_runs.ensures
+    runs_behind c.args.options.now c.args.front.now c.args.table.now c.args.setup c.args.runs.now c.args.text.now.items c.put_runs.new.text.items c.requires.sheet
+    c.in_ok-put_runs.ensures

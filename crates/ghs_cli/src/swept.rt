@@ -1,0 +1,126 @@
+//! How each protocol is swept. A further protocol has a line in each function by protocols here.
+ghost use Rattle.ghs_cli.specs.Swept.{AreFiguresBy, AreRunsBy, IsBoundBy, by_of, kind_columns, layout_by, schedule_by, setup_of};
+ghost use Rattle.peer_sweep.specs.Figures.{LeavesRoom};
+ghost use Rattle.peer_sweep.specs.Sweep.{HasTurns};
+ghost use Rattle.std.specs.Prelude.{◌≡◌, ◌+◌, ◌≤◌, ◌^◌, All, IfOk, OnErr, length};
+
+use boruvka::protocol::Boruvka;
+use ghs_choices::by::By;
+use ghs_choices::schedule_kind::ScheduleKind;
+use ghs_commands::job::SweepOptions;
+use ghs_graph::bounds::bound;
+use ghs_graph::graph::Graph;
+use ghs_sweep::seeded::Ghs;
+use peer_machine::protocol::Protocol as Rules;
+use peer_sweep::figures::Figures;
+use peer_sweep::rules::ByRules;
+use peer_sweep::runs::run_seeds;
+use peer_sweep::setup::Setup;
+use peer_sweep::table::Table;
+use peer_trace::protocol::Protocol;
+use peer_words::value::Word;
+use std::alloc::{AllocError, Global};
+use std::thread::Threads;
+
+/// The names of the columns of kinds of messages: those of GHS, and behind them those that only others have.
+fn kind_columns() -> [Word; 10]
+    ensures { result ≡ kind_columns }
+{
+    [
+        Word::of(b"connect"),
+        Word::of(b"initiate"),
+        Word::of(b"test"),
+        Word::of(b"accept"),
+        Word::of(b"reject"),
+        Word::of(b"report"),
+        Word::of(b"changeroot"),
+        Word::of(b"name"),
+        Word::of(b"explore"),
+        Word::of(b"echo"),
+    ]
+}
+
+/// How the lines of a protocol's runs are laid out. Refusal: out of memory.
+pub(crate) fn table_by(alloc: Global, protocol: Protocol) -> Result<Table, AllocError>
+    ensures { IfOk result (λ t. t ≡ layout_by protocol) }
+{
+    let kinds = kind_columns();
+    match protocol {
+        Protocol::Ghs => Table::of::<Ghs>(alloc, &kinds),
+        Protocol::Boruvka => Table::of::<ByRules<Boruvka>>(alloc, &kinds),
+    }
+}
+
+/// Goes on with the runs of seeds by a protocol, as `run_seeds` does. Refusal: out of memory; then those that there are stay.
+pub(crate) fn run_seeds_by<R: Threads + Sync>(
+    rt: &R,
+    alloc: Global,
+    protocol: Protocol,
+    graph: &Graph,
+    setup: Setup,
+    first: u64,
+    runs: &mut Vec<Figures>,
+    count: u64,
+    threads: u32,
+) -> Result<(), AllocError>
+    requires turns { HasTurns setup }
+    requires before { AreRunsBy protocol graph.now setup first runs.old.items }
+    requires some { 1 ≤ count }
+    requires seeds { first + length runs.old.items + count ≤ 2 ^ 64 }
+    requires threads { 1 ≤ threads }
+    ensures runs { IfOk result (λ _. AreRunsBy protocol graph.now setup first runs.new.items) }
+    ensures count { IfOk result (λ _. length runs.new.items ≡ length runs.old.items + count) }
+    ensures err { OnErr result (runs.new.items ≡ runs.old.items) }
+{
+    match protocol {
+        Protocol::Ghs => {
+            run_seeds::<Ghs, R>(rt, alloc, graph, setup, first, runs, count, threads)
+        }
+        Protocol::Boruvka => {
+            run_seeds::<ByRules<Boruvka>, R>(
+                rt, alloc, graph, setup, first, runs, count, threads,
+            )
+        }
+    }
+}
+
+/// The bound on the messages of a run of a graph.
+pub(crate) fn bound_by(protocol: Protocol, graph: &Graph) -> u64
+    ensures { IsBoundBy protocol graph.now result }
+{
+    match protocol {
+        Protocol::Ghs => bound(graph.nodes(), graph.links()),
+        Protocol::Boruvka => Boruvka::bound_of(graph),
+    }
+}
+
+/// What the runs of a sweep have in common.
+pub(crate) fn setup_of(protocol: Protocol, options: &SweepOptions) -> Setup
+    ensures { result ≡ setup_of protocol options.now }
+{
+    Setup {
+        schedule_kind: schedule_by(protocol, options),
+        wake: options.wake,
+        turns: options.turns,
+    }
+}
+
+/// Among which events their schedules pick.
+fn schedule_by(protocol: Protocol, options: &SweepOptions) -> ScheduleKind
+    ensures { result ≡ schedule_by protocol options.now }
+{
+    match protocol {
+        Protocol::Ghs => options.schedule_kind,
+        _ => ScheduleKind::Seeded,
+    }
+}
+
+/// By which parts messages are counted.
+pub(crate) fn by_of(protocol: Protocol, options: &SweepOptions) -> Option<By>
+    ensures { result ≡ by_of protocol options.now }
+{
+    match protocol {
+        Protocol::Ghs => options.by,
+        _ => None,
+    }
+}
