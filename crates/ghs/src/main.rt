@@ -106,10 +106,9 @@ fn fulfil<R: Runtime + AllocGlobal + Threads + Wait + Sync>(rt: &R, alloc: Globa
     ensures { IsStatusOfJob result }
 {
     match &job.task {
-        Task::Sweep {
-            protocol: Protocol::Ghs,
-            options,
-        } if !job.networks.is_empty() => sweep(rt, alloc, options, &job.networks),
+        Task::Sweep { protocol, options } if !job.networks.is_empty() => {
+            sweep(rt, alloc, *protocol, options, &job.networks)
+        }
         _ => finish(rt, do_job(rt, alloc, job)),
     }
 }
@@ -118,6 +117,7 @@ fn fulfil<R: Runtime + AllocGlobal + Threads + Wait + Sync>(rt: &R, alloc: Globa
 fn sweep<R: Runtime + AllocGlobal + Threads + Sync>(
     rt: &R,
     alloc: Global,
+    protocol: Protocol,
     options: &SweepOptions,
     names: &[String],
 ) -> u8
@@ -135,7 +135,7 @@ fn sweep<R: Runtime + AllocGlobal + Threads + Sync>(
         }
     }
     let mut out = Device::of(io::writer(rt));
-    finish(rt, sweep_networks(rt, alloc, options, &networks, &mut out))
+    finish(rt, sweep_networks(rt, alloc, protocol, options, &networks, &mut out))
 }
 
 /// Opens a network's file and reads it; `-` is standard input. A file that can't be opened can't be read.

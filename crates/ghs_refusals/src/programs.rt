@@ -115,7 +115,7 @@ const SHOWS: [(&str, &str); 6] = [
     ("steps --json --node 3 x", "{\"step\":1,\"node\":3,"),
     (
         "sweep --seeds 1..3 --workers 2",
-        "seed,schedule,wake,nodes,",
+        "seed,protocol,schedule,wake,nodes,",
     ),
     ("sweep --seeds 1..3 --print summary", "measure,runs,min,"),
     ("view --seed 7", "<!doctype html>"),

@@ -1,25 +1,33 @@
 //! Sweeps, and the figures that they are made of.
-ghost use Rattle.ghs_sweep.specs.Figures.{HasSmallWeight};
-ghost use Rattle.ghs_sweep.specs.Sweep.{AreRuns, HasTurns};
+ghost use Rattle.ghs_sweep.specs.Sweep.{AreFiguresOf};
+ghost use Rattle.peer_sweep.specs.Figures.{LeavesRoom};
+ghost use Rattle.peer_sweep.specs.Sweep.{AreRuns, HasTurns};
 ghost use Rattle.std.specs.Prelude.{◌≡◌, ◌≤◌, ◌^◌, All, IfOk, length};
 
 use crate::comparing::assert_same;
+use boruvka::protocol::Boruvka;
 use ghs_choices::form::Form;
 use ghs_choices::schedule_kind::ScheduleKind;
 use ghs_core::event::Event;
 use ghs_graph::graph::Graph;
 use ghs_refusing::orders::{Turn, order, refuse, turn_of};
 use ghs_refusing::scenes::{events_of_run, five, is_after, is_five, let_go, world_after};
-use ghs_sweep::figures::{Figures, figures_of};
-use ghs_sweep::front::{bare_front, front_of};
-use ghs_sweep::line::put_line;
-use ghs_sweep::lines::put_runs;
-use ghs_sweep::runs::run_seeds;
-use ghs_sweep::seeded::{Setup, figures_of_seed};
-use ghs_sweep::summary::put_summary;
+use ghs_sweep::figures::figures_of;
+use ghs_sweep::seeded::{Ghs, figures_of_seed};
 use ghs_world::world::World;
 use peer_network::wake_set::WakeSet;
+use peer_sweep::figures::Figures;
+use peer_sweep::front::{bare_front, front_of};
+use peer_sweep::line::{put_head, put_line};
+use peer_sweep::lines::put_runs;
+use peer_sweep::rules::ByRules;
+use peer_sweep::runs::run_seeds;
+use peer_sweep::setup::Setup;
+use peer_sweep::summary::put_summary;
+use peer_sweep::swept::Swept;
+use peer_sweep::table::Table;
 use peer_texts::trace::EVENT_LIMIT;
+use peer_words::value::Word;
 use std::alloc::{AllocError, Global};
 use std::process::Abort;
 use std::test::Fail;
@@ -30,6 +38,11 @@ const SETUP: Setup = Setup {
     wake: WakeSet::All,
     turns: EVENT_LIMIT,
 };
+
+/// How lines of GHS are laid out that have a column for a kind of its own and one for another's.
+fn table(alloc: Global) -> Result<Table, AllocError> {
+    Table::of::<Ghs>(alloc, &[Word::of(b"connect"), Word::of(b"echo")])
+}
 
 /// The figures of a world's net, which has no more events than the world has turns.
 fn figures_in(alloc: Global, world: &World) -> Result<Figures, AllocError> {
@@ -85,6 +98,25 @@ fn seed_figures_refused(rt: &impl Abort, alloc: Global, graph: &Graph, k: usize)
     turn
 }
 
+/// The figures of one seed's run by Borůvka in step.
+fn figures_in_step(alloc: Global, graph: &Graph) -> Result<Figures, AllocError> {
+    ByRules::<Boruvka>::figures_of_seed(alloc, graph, SETUP, 7)
+}
+
+/// They are those that it has where nothing is refused, and the graph stands.
+fn take_figures_in_step(rt: &impl Abort, alloc: Global, k: usize) -> Turn {
+    let graph = five(alloc).expect(rt, "a graph");
+    let whole = figures_in_step(alloc, &graph).expect(rt, "figures");
+    order(alloc, k);
+    let answer = figures_in_step(alloc, &graph);
+    let turn = turn_of(alloc, k, &answer);
+    if let Ok(figures) = answer {
+        assert!(rt; figures == whole);
+    }
+    assert!(rt; is_five(alloc, &graph));
+    turn
+}
+
 /// The same; the graph stands.
 fn take_seed_figures(rt: &impl Abort, alloc: Global, k: usize) -> Turn {
     let graph = five(alloc).expect(rt, "a graph");
@@ -103,12 +135,12 @@ fn first_runs<R: Threads + Sync>(
 ) -> Result<Vec<Figures>, AllocError>
     requires turns { HasTurns setup }
     requires count { (1 ≤ count) × (count ≤ 9) }
-    ensures runs { IfOk result (λ runs. AreRuns graph.now setup 1 runs.items) }
+    ensures runs { IfOk result (λ runs. AreRuns AreFiguresOf graph.now setup 1 runs.items) }
     ensures count { IfOk result (λ runs. length runs.items ≡ count) }
-    ensures small { IfOk result (λ runs. All HasSmallWeight runs.items) }
+    ensures small { IfOk result (λ runs. All LeavesRoom runs.items) }
 {
     let mut runs = Vec::new(alloc);
-    run_seeds(rt, alloc, graph, setup, 1, &mut runs, count, 1)?;
+    run_seeds::<Ghs, R>(rt, alloc, graph, setup, 1, &mut runs, count, 1)?;
     Ok(runs)
 }
 
@@ -123,7 +155,7 @@ fn go_on<R: Threads + Sync + Abort>(
     assert!(rt; threads >= 1);
     let mut runs = first_runs(rt, alloc, graph, SETUP, 1).expect(rt, "a run");
     order(alloc, k);
-    let answer = run_seeds(rt, alloc, graph, SETUP, 1, &mut runs, 3, threads);
+    let answer = run_seeds::<Ghs, R>(rt, alloc, graph, SETUP, 1, &mut runs, 3, threads);
     (turn_of(alloc, k, &answer), runs)
 }
 
@@ -139,8 +171,9 @@ fn assert_runs(rt: &impl Abort, alloc: Global, graph: &Graph, runs: &[Figures], 
 /// Runs have their text.
 fn assert_text(rt: &impl Abort, alloc: Global, runs: &[Figures]) {
     assert!(rt; runs.len() <= 4);
+    let table = table(alloc).expect(rt, "a table");
     let mut text = Vec::new(alloc);
-    assert!(rt; put_runs(&mut text, Form::Text, b"", SETUP, 1, runs).is_ok());
+    assert!(rt; put_runs(&mut text, Form::Text, b"", &table, SETUP, 1, runs).is_ok());
 }
 
 /// Three runs behind the first one; refused, that one stands, and has its text. The graph stands.
@@ -166,27 +199,28 @@ fn lines_of(alloc: Global, form: Form, runs: &[Figures]) -> Result<Vec<u8>, Allo
     requires { length runs.now ≤ 2 ^ 32 }
 {
     let front = front_of(alloc, form, "a \"five\", or so")?;
+    let table = table(alloc)?;
     let mut text = Vec::new(alloc);
-    put_runs(&mut text, form, &front, SETUP, 1, runs)?;
+    put_head(&mut text, &table)?;
+    put_runs(&mut text, form, &front, &table, SETUP, 1, runs)?;
     Ok(text)
 }
 
 /// Their summary.
 fn summary_of(alloc: Global, form: Form, runs: &[Figures]) -> Result<Vec<u8>, AllocError>
-    requires some { 1 ≤ length runs.now }
     requires few { length runs.now ≤ 2 ^ 32 }
-    requires small { All HasSmallWeight runs.now }
+    requires small { All LeavesRoom runs.now }
 {
+    let table = table(alloc)?;
     let mut text = Vec::new(alloc);
-    put_summary(alloc, &mut text, form, bare_front(form), runs)?;
+    put_summary(alloc, &mut text, form, bare_front(form), &table, runs)?;
     Ok(text)
 }
 
 /// What is printed of runs.
 fn sheet_of(alloc: Global, sheet: Sheet, runs: &[Figures]) -> Result<Vec<u8>, AllocError>
-    requires some { 1 ≤ length runs.now }
     requires few { length runs.now ≤ 2 ^ 32 }
-    requires small { All HasSmallWeight runs.now }
+    requires small { All LeavesRoom runs.now }
 {
     match sheet {
         Sheet::Lines(form) => lines_of(alloc, form, runs),
@@ -197,7 +231,7 @@ fn sheet_of(alloc: Global, sheet: Sheet, runs: &[Figures]) -> Result<Vec<u8>, Al
 /// The figures of the first two runs of the five nodes.
 fn two_runs<R: Threads + Sync + Abort>(rt: &R, alloc: Global) -> Vec<Figures>
     ensures count { length result.items ≡ 2 }
-    ensures small { All HasSmallWeight result.items }
+    ensures small { All LeavesRoom result.items }
 {
     let graph = five(alloc).expect(rt, "a graph");
     first_runs(rt, alloc, &graph, SETUP, 2).expect(rt, "runs")
@@ -229,9 +263,10 @@ fn assert_line(rt: &impl Abort, text: &[u8], turn: Turn) {
 /// A run's line behind what there is.
 fn put_figures(rt: &impl Abort, alloc: Global, k: usize) -> Turn {
     let figures = seventh(rt, alloc);
+    let table = table(alloc).expect(rt, "a table");
     let mut text = Vec::from_slice(alloc, b"head\n").expect(rt, "memory");
     order(alloc, k);
-    let answer = put_line(&mut text, 7, SETUP, &figures);
+    let answer = put_line(&mut text, &table, 7, SETUP, &figures);
     let turn = turn_of(alloc, k, &answer);
     assert_line(rt, &text, turn);
     turn
@@ -252,6 +287,12 @@ fn figures_of_runs(host: HostRuntime) -> Result<(), Fail> {
         alloc,
         "figures_of_seed",
         |k| take_seed_figures(rt, alloc, k),
+    )?;
+    refuse(
+        rt,
+        alloc,
+        "figures_of_seed(boruvka)",
+        |k| take_figures_in_step(rt, alloc, k),
     )?;
     refuse(rt, alloc, "put_line", |k| put_figures(rt, alloc, k))
 }

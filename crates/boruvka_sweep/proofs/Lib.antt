@@ -1,3 +1,0 @@
--- Serves the proofs: nothing here has to be believed.
-pub mod Five
-pub mod Swept

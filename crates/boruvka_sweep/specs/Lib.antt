@@ -1,4 +1,0 @@
--- To be believed: contracts cite what stands here, and what it is made of.
-pub mod Figures
-pub mod Line
-pub mod Sweep
