@@ -135,7 +135,10 @@ fn sweep<R: Runtime + AllocGlobal + Threads + Sync>(
         }
     }
     let mut out = Device::of(io::writer(rt));
-    finish(rt, sweep_networks(rt, alloc, protocol, options, &networks, &mut out))
+    finish(
+        rt,
+        sweep_networks(rt, alloc, protocol, options, &networks, &mut out),
+    )
 }
 
 /// Opens a network's file and reads it; `-` is standard input. A file that can't be opened can't be read.

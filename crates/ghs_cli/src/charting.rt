@@ -7,8 +7,8 @@ ghost use Rattle.std.specs.Prelude.{◌≡◌, ◌≤◌, ◌^◌, ◌++◌, All
 
 use crate::networks::Network;
 use crate::progress::tell_networks;
-use crate::swept::bound_by;
 use crate::sweeping::runs_of;
+use crate::swept::bound_by;
 use ghs_chart::chart::put_chart_head;
 use ghs_chart::panel::{Caption, put_panel};
 use ghs_chart::texts::CHART_TAIL;
@@ -72,7 +72,16 @@ fn put_panels<R: Threads + Sync + Eprint>(
 {
     for (place, network) in networks.iter().enumerate() {
         let name = network.name.as_str();
-        put_network_panel(rt, alloc, text, protocol, options, place as u64, name, &network.graph)?;
+        put_network_panel(
+            rt,
+            alloc,
+            text,
+            protocol,
+            options,
+            place as u64,
+            name,
+            &network.graph,
+        )?;
         tell_networks(rt, options.progress, place + 1, networks.len());
     }
     Ok(())

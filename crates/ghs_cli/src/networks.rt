@@ -10,8 +10,8 @@ use crate::charting::chart_text;
 use crate::fault::ServeFault;
 use crate::progress::tell_networks;
 use crate::reading::graph_of;
-use crate::swept::{by_of, table_by};
 use crate::sweeping::{put_head_by, put_lines_of};
+use crate::swept::{by_of, table_by};
 use ghs_choices::form::Form;
 use ghs_commands::job::{Sheet, SweepOptions};
 use ghs_gr::device::{Sink, Source};
@@ -156,6 +156,15 @@ fn put_network<H: Threads + Sync + Eprint>(
     ensures { IfOk result (λ _. (lines : List ℕ) × AreLinesOf protocol options.now network.now lines × (text.new.items ≡ text.old.items ++ lines)) }
 {
     let front = front_of(alloc, options.form, network.name.as_str())?;
-    put_lines_of(rt, alloc, text, protocol, options, table, &front, &network.graph)?;
+    put_lines_of(
+        rt,
+        alloc,
+        text,
+        protocol,
+        options,
+        table,
+        &front,
+        &network.graph,
+    )?;
     Ok(())
 }

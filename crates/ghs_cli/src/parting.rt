@@ -13,8 +13,8 @@ use ghs_graph::graph::Graph;
 use ghs_parts::lines::put_run;
 use ghs_picking::picking::run_by_seed;
 use ghs_sched::fault::RunFault;
-use peer_sweep::runs::share_of;
 use ghs_world::world::World;
+use peer_sweep::runs::share_of;
 use std::alloc::{AllocError, Global};
 use std::thread::{Threads, join};
 

@@ -87,7 +87,9 @@ fn swept_text<R: Threads + Sync + Eprint>(
     let mut text = Vec::new(alloc);
     put_head_by(&mut text, &table, by_of(protocol, options), options)?;
     let front = bare_front(options.form);
-    put_lines_of(rt, alloc, &mut text, protocol, options, &table, front, graph)?;
+    put_lines_of(
+        rt, alloc, &mut text, protocol, options, &table, front, graph,
+    )?;
     Ok(text)
 }
 
@@ -136,11 +138,7 @@ pub(crate) fn put_lines_of<R: Threads + Sync + Eprint>(
 }
 
 /// The names of the columns, as a line; lines of JSON say them with each value.
-fn put_head_of(
-    text: &mut Vec<u8>,
-    table: &Table,
-    options: &SweepOptions,
-) -> Result<(), AllocError>
+fn put_head_of(text: &mut Vec<u8>, table: &Table, options: &SweepOptions) -> Result<(), AllocError>
     ensures { IfOk result (λ _. text.new.items ≡ text.old.items ++ head_of table.now options.now.form options.now.sheet) }
 {
     match (options.form, options.sheet) {
@@ -258,7 +256,9 @@ pub(crate) fn runs_of<R: Threads + Sync + Eprint>(
     let mut left = count;
     while left > 0 {
         let batch = batch_of(&runs, threads).min(left);
-        run_seeds_by(rt, alloc, protocol, graph, setup, first, &mut runs, batch, threads)?;
+        run_seeds_by(
+            rt, alloc, protocol, graph, setup, first, &mut runs, batch, threads,
+        )?;
         left -= batch;
         tell_seeds(rt, options.progress, left, count);
     }

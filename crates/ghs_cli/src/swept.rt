@@ -77,9 +77,7 @@ pub(crate) fn run_seeds_by<R: Threads + Sync>(
             run_seeds::<Ghs, R>(rt, alloc, graph, setup, first, runs, count, threads)
         }
         Protocol::Boruvka => {
-            run_seeds::<ByRules<Boruvka>, R>(
-                rt, alloc, graph, setup, first, runs, count, threads,
-            )
+            run_seeds::<ByRules<Boruvka>, R>(rt, alloc, graph, setup, first, runs, count, threads)
         }
     }
 }

@@ -38,7 +38,8 @@ abbrev pub AreSome : (Shape → Setup → ℕ → Figures → Type 0) → Shape 
 AreSome are g setup first count runs = AreRuns are g setup first runs × (length runs ≡ count)
 
 -- the runs of two shares, where both have theirs
-pub runs_of_both : (are : Shape → Setup → ℕ → Figures → Type 0) (g : Shape) (setup : Setup) (first count share : ℕ) (r s : Result (Vec Figures Global) AllocError)
+pub runs_of_both : (are : Shape → Setup → ℕ → Figures → Type 0) (g : Shape) (setup : Setup) (first count share : ℕ)
+    (r s : Result (Vec Figures Global) AllocError)
     (mine others : Vec Figures Global) (runs : List Figures) →
     IfOk r (λ v. AreSome are g setup first share v.items) →
     IfOk s (λ v. AreSome are g setup (first + share) count v.items) →

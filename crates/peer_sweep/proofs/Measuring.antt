@@ -16,7 +16,8 @@ pub one_measure_more : (form : Form) (front : List ℕ) (runs : List Figures) (c
     (lines : List ℕ) × AreSummaryLines form front runs (take (i + 1) cs) lines × (new ≡ old ++ lines)
 one_measure_more form front runs cs i c old text new is within (lines, before, first) (line, next, last) = (
   lines ++ line,
-  subst (λ (l : List Column). AreSummaryLines form front runs l (lines ++ line)) (ap (λ (d : Column). take i cs ++ d ∷ []) is ∙ sym (take_more cs i c within))
+  subst (λ (l : List Column). AreSummaryLines form front runs l (lines ++ line))
+      (ap (λ (d : Column). take i cs ++ d ∷ []) is ∙ sym (take_more cs i c within))
       (NextMeasure (take i cs) c lines line before next),
   last ∙ (ap (λ (t : List ℕ). t ++ line) first ∙ append_assoc old lines line),
 )

@@ -12,5 +12,6 @@ put_runs_panel-requires-clause-small g c =
 
 pub returns : goal.returns
 returns g c =
-    panel_is_swept c.args.protocol c.args.options.now c.args.place c.args.name.now c.args.graph.now c.in_ok-runs.runs.items c.deref.result.now c.args.text.now.items
+    panel_is_swept c.args.protocol c.args.options.now c.args.place c.args.name.now c.args.graph.now c.in_ok-runs.runs.items
+    c.deref.result.now c.args.text.now.items
     c.put_runs_panel.new.text.items c.deref.ensures.value c.in_ok-runs.ensures.runs c.in_ok-runs.ensures.all c.in_ok-put_runs_panel.ensures

@@ -8,5 +8,6 @@ loop-place-init c = sym (append-nil c.args.text.now.items)
 
 pub loop-place-preserved : goal.loop-place-preserved
 loop-place-preserved c =
-    one_line_more (line_behind c.args.form c.args.front.now c.args.table.now c.args.setup) c.args.first c.loop-place.place c.args.runs.now _ c.args.text.now.items
+    one_line_more (line_behind c.args.form c.args.front.now c.args.table.now c.args.setup) c.args.first c.loop-place.place c.args.runs.now _
+    c.args.text.now.items
     c.loop-place.text.items c.put_behind.new.text.items c.loop-place-test.true c.loop-place.invariant c.in_ok-put_behind.ensures

@@ -22,6 +22,7 @@ returns c =
         text = refl;
       },
       c.in_ok-put_measure_line.ensures
-          ∙ (ap (λ (l : List ℕ). c.args.text.now.items ++ measure_line c.args.form c.args.front.now column l c.sum_of-sum.result) c.deref-2.ensures.value
+          ∙ (ap (λ (l : List ℕ). c.args.text.now.items ++ measure_line c.args.form c.args.front.now column l c.sum_of-sum.result)
+          c.deref-2.ensures.value
           ∙ ap (λ (n : ℕ). c.args.text.now.items ++ measure_line c.args.form c.args.front.now column rising n) total),
     )
