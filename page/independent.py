@@ -1,10 +1,10 @@
 #!/usr/bin/env python3
 """The steps of a stored run, played by a program that shares nothing with `ghs`: what its texts are compared with.
 
-    page/independent.py GRAPH TRACE [--protocol ghs|boruvka] [--json | --page | --html] [--from A] [--to B] [--node V]
+    page/independent.py GRAPH TRACE [--protocol ghs|boruvka|echo] [--json | --page | --html] [--from A] [--to B] [--node V]
 
-It plays the events of a trace by the node's procedures as docs/PROTOCOL.md states them, or by the rules of Borůvka in step
-as docs/class/COMPARE.md does, and writes what each of them changed: its steps as text or as JSON Lines, the data of its page, or
+It plays the events of a trace by the node's procedures as docs/PROTOCOL.md states them, or by the rules of Borůvka in step or of
+the echo wave as docs/class/COMPARE.md does, and writes what each of them changed: its steps as text or as JSON Lines, the data of its page, or
 the page (docs/FORMATS.md). Parallel links, loops and graphs in pieces are taken.
 """
 import argparse
@@ -15,7 +15,7 @@ from collections import deque
 
 HERE = os.path.dirname(os.path.abspath(__file__))
 BASIC, BRANCH, REJECTED = 'basic', 'branch', 'rejected'
-ASKED, INSIDE = 'asked', 'inside'
+ASKED, INSIDE, PARENT = 'asked', 'inside', 'parent'
 KINDS = ['connect', 'initiate', 'test', 'accept', 'reject', 'report', 'changeroot']
 INF = (1 << 64, 0, 0)
 # what a message has behind its kind; an Initiate has a phase in GHS alone
@@ -64,7 +64,7 @@ def lengths(n, keys):
 
     def length(m):
         parts = zip(PARTS.get(m[0], ()), m[1:])
-        return 3 + (m[0] == 'report') + sum(widths[part] for part, x in parts if x is not None)
+        return (1 if m[0] in ('explore', 'echo') else 3) + (m[0] == 'report') + sum(widths[part] for part, x in parts if x is not None)
     return length
 
 
@@ -399,7 +399,55 @@ class StepNet(Played):
         return row, False, sends
 
 
-NETS = {net.PROTOCOL: net for net in (Net, StepNet)}
+class WaveNode(Node):
+    """What a node of the echo wave knows. It has no name of a fragment."""
+    name = None
+
+    def __init__(self, degree):
+        self.marks = [BASIC] * degree
+        self.phase, self.parent, self.awaits, self.halted = 'sleeping', None, 0, False
+
+    VARS = ('phase', 'parent', 'awaits', 'halted')
+
+
+class WaveNet(Played):
+    """A network through which the echo wave goes."""
+    PROTOCOL, KINDS, NODE = 'echo', ['explore', 'echo'], WaveNode
+    MARKS, PHASES = (BASIC, ASKED, PARENT), ('sleeping', 'asking', 'answered')
+    ROWS = ('Wakes', 'Joins', 'Hears')
+
+    @staticmethod
+    def most(n, links, k):
+        return 2 * links
+
+    def joins(self, s, parent, sends):
+        s.phase, s.parent = 'asking', parent
+        for p in range(len(s.marks)):
+            s.marks[p] = PARENT if p == parent else ASKED
+            if p != parent:
+                s.awaits += 1
+                sends.append((p, ('explore',)))
+        self.close(s, sends)
+
+    def close(self, s, sends):
+        if s.awaits == 0:
+            s.phase, s.halted = 'answered', s.parent is None
+            if s.parent is not None:
+                sends.append((s.parent, ('echo',)))
+
+    def react(self, v, j, m):
+        """Gives (row, whether the message is put back, sends) and changes the node."""
+        s, sends = self.nodes[v], []
+        if s.phase == 'sleeping':
+            self.joins(s, j, sends)
+            return ('Wakes' if m is None else 'Joins'), False, sends
+        assert s.awaits > 0, 'unforeseen'
+        s.awaits -= 1
+        self.close(s, sends)
+        return 'Hears', False, sends
+
+
+NETS = {net.PROTOCOL: net for net in (Net, StepNet, WaveNet)}
 
 
 # ---- text
@@ -479,9 +527,10 @@ def protocol_line(net):
     known = (
         ('name', next(iter(told.items())) == ('protocol', net.PROTOCOL)),
         ('kinds', list(has) == net.KINDS and all(has[k] == PARTS.get(k, ())[:len(has[k])] for k in has)),
-        ('the phase of an Initiate', ('phase' in has['initiate']) == (net.PROTOCOL == 'ghs')),
+        ('the phase of an Initiate', ('phase' in has.get('initiate', ())) == (net.PROTOCOL == 'ghs')),
         ('letters', len({kind['letter'] for kind in told['kinds']}) == len(has)),
-        ('bits', all(kind['bits'] == 3 + ('phase' in kind['has']) + (kind['kind'] == 'report') for kind in told['kinds'])),
+        ('bits', all(kind['bits'] == (1 if net.PROTOCOL == 'echo' else 3 + ('phase' in kind['has']) + (kind['kind'] == 'report'))
+                     for kind in told['kinds'])),
         ('marks', tuple(mark['mark'] for mark in told['marks']) == net.MARKS),
         ('phases', tuple(phase['phase'] for phase in told['phases']) == net.PHASES),
         ('opening', list(told['opening'].items()) == list(opening.items())),

@@ -1,6 +1,7 @@
 -- The rules of the echo wave.
-use Rattle.std.specs.Prelude.{◌≡◌, ℕ, zero, suc, ◌-◌, ◌==◌, Bool, true, false, not, nat_lt, Option, None, Some, is_none, ◌&&◌, List, [], ◌∷◌, ◌++◌, length, if◌then◌else◌}
+use Rattle.std.specs.Prelude.{◌≡◌, ℕ, zero, suc, ◌-◌, ◌*◌, ◌==◌, Bool, true, false, not, nat_lt, Option, None, Some, is_none, ◌&&◌, List, [], ◌∷◌, ◌++◌, length, if◌then◌else◌}
 use Rattle.ghs_graph.specs.declared.port.Port.{Port}
+use Rattle.ghs_graph.specs.Graph.{Shape}
 use Rattle.peer_machine.specs.declared.work.Work.{Work}
 use Rattle.peer_machine.specs.declared.work.Work.TheVariants.{Wake, Deliver}
 use Rattle.peer_machine.specs.Rules.{Rules, Outcome, Outgoing}
@@ -72,6 +73,10 @@ echo = record {
   kind_of = kind_of;
   bits = λ g m. 1;
 }
+
+-- how many messages a run sends at most: one over each link in each direction
+abbrev pub bound_of : Shape → ℕ
+bound_of g = 2 * length g.keys
 
 -- a change and what goes out are those of an outcome
 abbrev pub IsAnswer : Node → Change → Outgoing Message → Outcome Node Message → Type 0

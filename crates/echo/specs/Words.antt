@@ -1,11 +1,11 @@
 -- The words of the echo wave.
-use Rattle.std.specs.Prelude.{ℕ, zero, suc, List, [], ◌∷◌, ◌++◌, codes, if◌then◌else◌}
+use Rattle.std.specs.Prelude.{ℕ, zero, suc, ◌==◌, List, [], ◌∷◌, ◌++◌, codes, if◌then◌else◌}
 use Rattle.peer_words.specs.declared.spoken.Touched.{Touched}
 use Rattle.peer_words.specs.declared.spoken.Touched.TheVariants.{NoPort, AllPorts}
 use Rattle.peer_words.specs.declared.value.Carried.TheVariants.{Nothing}
 use Rattle.peer_words.specs.declared.value.Said.{Said}
 use Rattle.peer_words.specs.declared.value.Saying.{Saying}
-use Rattle.peer_words.specs.declared.value.Value.TheVariants.{Flag, Number, Port}
+use Rattle.peer_words.specs.declared.value.Value.TheVariants.{Flag, Number, Port, Word}
 use Rattle.peer_words.specs.Words.{Words}
 use Rattle.echo.specs.declared.node.Change.{Change}
 use Rattle.echo.specs.declared.node.Change.TheVariants.{Joins, Awaits}
@@ -31,10 +31,14 @@ abbrev pub says : Message → Saying
 says Explore = record { kind = codes "explore"; carried = Nothing }
 says Echo = record { kind = codes "echo"; carried = Nothing }
 
+-- a node sleeps, has asked and awaits answers, or awaits none
+abbrev pub phase_word : Node → List ℕ
+phase_word n = if n.head.awake then (if n.head.awaits == 0 then codes "answered" else codes "asking") else codes "sleeping"
+
 -- of who takes part, and of how far the wave has come
 abbrev pub wave_variables : Node → List Said
 wave_variables n =
-    record { name = codes "awake"; value = Flag n.head.awake }
+    record { name = codes "phase"; value = Word (phase_word n) }
     ∷ record { name = codes "parent"; value = Port n.head.parent }
     ∷ []
 

@@ -8,7 +8,7 @@
 //!
 //! At the end exactly two messages were sent for each link (`law_sends`), the branches join each node with exactly one
 //! initiator (`law_trees`), and where one node woke in each component they span it (`law_spans`). Its runs can be explored
-//! (`Explorable`) and told (`Spoken`). Next: `peer_examples`.
+//! (`Explorable`), told (`Spoken`) and shown on pages (`Viewed`). Next: `peer_examples`.
 #![tactic(auto)]
 
 mod bits;
@@ -16,7 +16,9 @@ mod ends;
 mod explorable;
 mod face;
 pub mod laws;
+pub mod looks;
 pub mod node;
 pub mod protocol;
 pub mod row_name;
 mod spoken;
+mod viewed;

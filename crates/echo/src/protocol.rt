@@ -21,7 +21,7 @@ pub struct Echo {}
 
 impl Protocol for Echo {
     ghost use Rattle.std.specs.Prelude.{◌≡◌, ℕ, ◌*◌, length, Some, IsSome, IfOk};
-    ghost use Rattle.echo.specs.Echo.{echo, after as changed};
+    ghost use Rattle.echo.specs.Echo.{bound_of, echo, after as changed};
     ghost use Rattle.echo.specs.Proved.{echo_kinds, echo_rules, echo_bound, echo_fits};
 
     type Node = Node;
@@ -34,7 +34,7 @@ impl Protocol for Echo {
 
     ghost after = { changed };
 
-    ghost bound = { λ g. 2 * length g.keys };
+    ghost bound = { bound_of };
 
     fn open(_alloc: Global, _v: u32, ports: &[Port]) -> Result<Node, AllocError> {
         Ok(Node {

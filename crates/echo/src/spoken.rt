@@ -1,7 +1,7 @@
 //! The words of the echo wave.
 ghost use Rattle.std.specs.Prelude.{◌≡◌, ◌++◌, IfOk};
 ghost use Rattle.echo.specs.Echo.{echo};
-ghost use Rattle.echo.specs.Words.{kind_word, mark_of, state_variables, wave_variables};
+ghost use Rattle.echo.specs.Words.{kind_word, mark_of, phase_word, state_variables, wave_variables};
 
 use crate::node::{Change, Message, Node};
 use crate::protocol::Echo;
@@ -72,9 +72,22 @@ fn kind_word(kind: usize) -> Word
 fn put_wave(list: &mut Vec<Said>, node: &Node) -> Result<(), AllocError>
     ensures { IfOk result (λ _. list.new.items ≡ list.old.items ++ wave_variables node.now) }
 {
-    list.push(Said::new(b"awake", Value::Flag(node.head.awake)))?;
+    list.push(Said::new(b"phase", Value::Word(phase_of(node))))?;
     list.push(Said::new(b"parent", Value::Port(node.head.parent)))?;
     Ok(())
+}
+
+/// Whether a node sleeps, awaits answers, or awaits none.
+fn phase_of(node: &Node) -> Word
+    ensures { result ≡ phase_word node.now }
+{
+    if !node.head.awake {
+        Word::of(b"sleeping")
+    } else if node.head.awaits == 0 {
+        Word::of(b"answered")
+    } else {
+        Word::of(b"asking")
+    }
 }
 
 /// How many answers it awaits, and whether it has halted.

@@ -22,6 +22,7 @@ use Rattle.ghs_cli.specs.Sweeping.{AreLines, ArePartedRuns, AreSheetLines, AreSw
 pub sweeps_by : (p : Protocol) (o : SweepOptions) (g : Shape) (text : List ℕ) → IsSweepText p o.sheet o g text → (verbs_of p).sweeps o g text
 sweeps_by protocol.Ghs o g text is = is
 sweeps_by protocol.Boruvka o g text is = is
+sweeps_by protocol.Echo o g text is = is
 
 -- lines of runs behind a text, where these are asked for
 pub runs_behind : (o : SweepOptions) (front : List ℕ) (l : Layout) (setup : Setup) (runs : List Figures) (old new : List ℕ) →

@@ -12,6 +12,9 @@ use Rattle.boruvka.specs.Ended.{HasEnded, marks_branch}
 use Rattle.boruvka.specs.Words.{words}
 use Rattle.boruvka_node.specs.Boruvka.{boruvka}
 use Rattle.boruvka_protocol.specs.Bound.{bound_of}
+use Rattle.echo.specs.Echo as wave
+use Rattle.echo.specs.Ended as wave_end
+use Rattle.echo.specs.Words as wave_words
 use Rattle.ghs_sweep.specs.Measure.{about_ghs}
 use Rattle.ghs_sweep.specs.Sweep as ghs
 use Rattle.peer_sweep.specs.About.{About}
@@ -40,6 +43,7 @@ kind_columns =
 abbrev pub about_of : Protocol → About
 about_of protocol.Ghs = about_ghs
 about_of protocol.Boruvka = rules.about_rules boruvka words
+about_of protocol.Echo = rules.about_rules wave.echo wave_words.words
 
 abbrev pub layout_by : Protocol → Layout
 layout_by p = layout_of (about_of p) kind_columns
@@ -48,6 +52,7 @@ layout_by p = layout_of (about_of p) kind_columns
 abbrev pub AreFiguresBy : Protocol → Shape → Setup → ℕ → Figures → Type 0
 AreFiguresBy protocol.Ghs = ghs.AreFiguresOf
 AreFiguresBy protocol.Boruvka = rules.AreFiguresOf boruvka bound_of marks_branch HasEnded
+AreFiguresBy protocol.Echo = rules.AreFiguresOf wave.echo wave.bound_of wave_end.marks_parent wave_end.HasEnded
 
 -- the figures of the runs of seeds from the first on
 abbrev pub AreRunsBy : Protocol → Shape → Setup → ℕ → List Figures → Type 0
@@ -57,6 +62,7 @@ AreRunsBy p = AreRuns (AreFiguresBy p)
 abbrev pub IsBoundBy : Protocol → Shape → ℕ → Type 0
 IsBoundBy protocol.Ghs g n = IsBound g.nodes (length g.keys) n
 IsBoundBy protocol.Boruvka g n = n ≡ bound_of g
+IsBoundBy protocol.Echo g n = n ≡ wave.bound_of g
 
 -- among which events schedules pick: GHS alone has others than the seeded
 abbrev pub schedule_by : Protocol → SweepOptions → ScheduleKind

@@ -14,6 +14,11 @@ use Rattle.boruvka.specs.Words.{words}
 use Rattle.boruvka_node.specs.Boruvka.{boruvka}
 use Rattle.boruvka_protocol.specs.Bound.{bound_of}
 use Rattle.boruvka.specs.Looks.{looks}
+use Rattle.echo.specs.Echo as wave
+use Rattle.echo.specs.Ended as wave_end
+use Rattle.echo.specs.Looks as wave_looks
+use Rattle.echo.specs.Words as wave_words
+use Rattle.peer_view.specs.PairPage.{IsPairPage}
 use Rattle.peer_view.specs.RunPage.{IsRunPage}
 use Rattle.ghs_commands.specs.declared.exploring.ExploreOptions.{ExploreOptions}
 use Rattle.ghs_commands.specs.declared.job.RunOptions.{RunOptions}
@@ -75,10 +80,10 @@ ghs_verbs = record {
 }
 
 -- by any protocol: its rules, when a run has ended, its words, the bound on messages, the marks of links, what marked links are at the
--- end, and the protocol as heads of stored runs name it; and what a page is
+-- end, and the protocol as heads of stored runs name it; and what pages are
 module _ {S M : Type 0} (r : Rules S M) (has_ended : Shape → Net S M → Type 0) (words : Words S M) (bound : Shape → ℕ)
     (is_branch : S → ℕ → Bool) (found : Shape → List Key → Type 0) (p : Protocol)
-    (is_page : Shape → List Event → ℕ → ℕ → List ℕ → Type 0) where
+    (is_page : Shape → List Event → ℕ → ℕ → List ℕ → Type 0) (is_pair_page : Shape → List Event → List Event → ℕ → ℕ → List ℕ → Type 0) where
   abbrev pub any_verbs : Verbs
   any_verbs = record {
     runs = any_run.IsRan r has_ended words.kind bound is_branch found p;
@@ -89,10 +94,10 @@ module _ {S M : Type 0} (r : Rules S M) (has_ended : Shape → Net S M → Type 
     is_unlawful = λ wake g. IsFirstUnlawful r g wake;
     tells = any_run.AreSteps r words;
     sweeps = λ o. charts.IsSweepText p o.sheet o;
-    views = any_view.IsView r has_ended is_page;
-    cant_view = any_view.HasNoView r has_ended is_page;
-    views_stored = any_view.IsStoredView r has_ended is_page;
-    cant_view_stored = any_view.HasNoStoredView r has_ended is_page;
+    views = any_view.IsView r is_page has_ended is_pair_page;
+    cant_view = any_view.HasNoView r has_ended;
+    views_stored = any_view.IsStoredView r is_page;
+    cant_view_stored = any_view.HasNoStoredView r;
     explores = λ o. any_explore.IsFound r words.kind bound p o.finding o;
     cant_explore = any_explore.FindsNothing r;
   }
@@ -106,4 +111,7 @@ abbrev pub verbs_of : Protocol → Verbs
 verbs_of protocol.Ghs = ghs_verbs
 verbs_of protocol.Boruvka =
     any_verbs boruvka HasEnded words bound_of marks_branch IsForest protocol.Boruvka
-    (IsRunPage boruvka words looks bound_of)
+    (IsRunPage boruvka words looks bound_of) (IsPairPage boruvka words looks bound_of)
+verbs_of protocol.Echo =
+    any_verbs wave.echo wave_end.HasEnded wave_words.words wave.bound_of wave_end.marks_parent wave_end.IsForest protocol.Echo
+    (IsRunPage wave.echo wave_words.words wave_looks.looks wave.bound_of) (IsPairPage wave.echo wave_words.words wave_looks.looks wave.bound_of)

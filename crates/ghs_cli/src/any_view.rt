@@ -1,7 +1,8 @@
-//! Pages of runs by any protocol: of the run that a seed picks, and of a stored one.
+//! Pages of runs by any protocol: of the run that a seed picks or those of two, and of a stored one.
+ghost use Rattle.peer_view.specs.PairPage.{IsPairPage};
 ghost use Rattle.peer_view.specs.RunPage.{IsRunPage};
-ghost use Rattle.ghs_cli.specs.AnyView.{HasNoStoredView, HasNoView, IsRunShown, IsStoredView, IsView};
-ghost use Rattle.std.specs.Prelude.{IfErr, IfOk};
+ghost use Rattle.ghs_cli.specs.AnyView.{HasNoStoredView, HasNoView, IsPairView, IsRunView, IsShownBy, IsStoredView, IsView};
+ghost use Rattle.std.specs.Prelude.{◌≡◌, None, Some, IfErr, IfOk};
 
 use crate::fault::ServeFault;
 use ghs_commands::job::{StoredViewOptions, ViewOptions};
@@ -12,18 +13,35 @@ use peer_page::fault::{PageFault, StoredFault};
 use peer_report::run::run_by_seed;
 use peer_runs::world::World;
 use peer_view::page::run_page;
+use peer_view::pair::pair_page;
 use peer_view::stored::stored_page;
 use peer_words::viewed::Viewed;
 use std::alloc::Global;
 
-/// The page of the run that a seed picks of a graph, to its end or to its last turn.
+/// The page of the run that a seed picks of a graph, to its end or to its last turn, or of the runs of two seeds.
 pub(crate) fn viewed<P: Ends + Viewed>(
     alloc: Global,
     options: &ViewOptions,
     graph: Graph,
 ) -> Result<Vec<u8>, ServeFault>
-    ensures text { IfOk result (λ text. IsView P.rules P.has_ended (IsRunPage P.rules P.words P.looks P.bound) options.now graph text.items) }
-    ensures fault { IfErr result (λ fault. HasNoView P.rules P.has_ended (IsRunPage P.rules P.words P.looks P.bound) options.now graph fault) }
+    ensures text { IfOk result (λ text. IsView P.rules (IsRunPage P.rules P.words P.looks P.bound) P.has_ended (IsPairPage P.rules P.words P.looks P.bound) options.now graph text.items) }
+    ensures fault { IfErr result (λ fault. HasNoView P.rules P.has_ended options.now graph fault) }
+{
+    match options.beside {
+        None => run_viewed::<P>(alloc, options, graph),
+        Some(beside) => pair_viewed::<P>(alloc, options, beside, graph),
+    }
+}
+
+/// The page of one run.
+fn run_viewed<P: Ends + Viewed>(
+    alloc: Global,
+    options: &ViewOptions,
+    graph: Graph,
+) -> Result<Vec<u8>, ServeFault>
+    requires { options.now.beside ≡ None }
+    ensures text { IfOk result (λ text. IsRunView P.rules (IsRunPage P.rules P.words P.looks P.bound) P.has_ended options.now graph text.items) }
+    ensures fault { IfErr result (λ fault. HasNoView P.rules P.has_ended options.now graph fault) }
 {
     let (world, _) = run_by_seed::<P>(alloc, graph, options.wake, options.seed, options.turns)?;
     page_of(alloc, options, &world)
@@ -35,13 +53,80 @@ fn page_of<P: Ends + Viewed>(
     options: &ViewOptions,
     world: &World<P>,
 ) -> Result<Vec<u8>, ServeFault>
-    requires { IsRunShown P.rules P.has_ended (IsRunPage P.rules P.words P.looks P.bound) options.now world.now.net.graph world.now.net.trace }
-    ensures text { IfOk result (λ text. IsView P.rules P.has_ended (IsRunPage P.rules P.words P.looks P.bound) options.now world.now.net.graph text.items) }
-    ensures fault { IfErr result (λ fault. HasNoView P.rules P.has_ended (IsRunPage P.rules P.words P.looks P.bound) options.now world.now.net.graph fault) }
+    requires alone { options.now.beside ≡ None }
+    requires run { IsShownBy P.rules P.has_ended options.now.seed options.now world.now.net.graph world.now.net.trace }
+    ensures text { IfOk result (λ text. IsRunView P.rules (IsRunPage P.rules P.words P.looks P.bound) P.has_ended options.now world.now.net.graph text.items) }
+    ensures fault { IfErr result (λ fault. HasNoView P.rules P.has_ended options.now world.now.net.graph fault) }
 {
     let net = world.net();
     let graph = net.graph().copy(alloc)?;
     match run_page::<P>(alloc, graph, net.trace(), options.from, options.to) {
+        Ok(text) => Ok(text),
+        Err(PageFault::TooLarge) => Err(ServeFault::PageTooLarge),
+        Err(PageFault::Memory) => Err(ServeFault::Memory),
+    }
+}
+
+/// The page of the runs that two seeds pick of a graph: the options' and another.
+fn pair_viewed<P: Ends + Viewed>(
+    alloc: Global,
+    options: &ViewOptions,
+    beside: u64,
+    graph: Graph,
+) -> Result<Vec<u8>, ServeFault>
+    requires { options.now.beside ≡ Some beside }
+    ensures text { IfOk result (λ text. IsPairView P.rules (IsRunPage P.rules P.words P.looks P.bound) P.has_ended (IsPairPage P.rules P.words P.looks P.bound) options.now beside graph text.items) }
+    ensures fault { IfErr result (λ fault. HasNoView P.rules P.has_ended options.now graph fault) }
+{
+    let same = graph.copy(alloc)?;
+    let (first, _) = run_by_seed::<P>(alloc, graph, options.wake, options.seed, options.turns)?;
+    viewed_beside(alloc, options, beside, same, &first)
+}
+
+/// The page of a world's run, and beside it of the one that another seed picks of the same graph.
+fn viewed_beside<P: Ends + Viewed>(
+    alloc: Global,
+    options: &ViewOptions,
+    beside: u64,
+    graph: Graph,
+    first: &World<P>,
+) -> Result<Vec<u8>, ServeFault>
+    requires beside { options.now.beside ≡ Some beside }
+    requires graph { first.now.net.graph ≡ graph }
+    requires first { IsShownBy P.rules P.has_ended options.now.seed options.now graph first.now.net.trace }
+    ensures text { IfOk result (λ text. IsPairView P.rules (IsRunPage P.rules P.words P.looks P.bound) P.has_ended (IsPairPage P.rules P.words P.looks P.bound) options.now beside graph text.items) }
+    ensures fault { IfErr result (λ fault. HasNoView P.rules P.has_ended options.now graph fault) }
+{
+    let (second, _) = run_by_seed::<P>(alloc, graph, options.wake, beside, options.turns)?;
+    pair_page_of(alloc, options, beside, first, &second)
+}
+
+/// The page of two worlds of one graph.
+fn pair_page_of<P: Ends + Viewed>(
+    alloc: Global,
+    options: &ViewOptions,
+    beside: u64,
+    first: &World<P>,
+    second: &World<P>,
+) -> Result<Vec<u8>, ServeFault>
+    requires beside { options.now.beside ≡ Some beside }
+    requires graph { second.now.net.graph ≡ first.now.net.graph }
+    requires first { IsShownBy P.rules P.has_ended options.now.seed options.now first.now.net.graph first.now.net.trace }
+    requires second { IsShownBy P.rules P.has_ended beside options.now first.now.net.graph second.now.net.trace }
+    ensures text { IfOk result (λ text. IsPairView P.rules (IsRunPage P.rules P.words P.looks P.bound) P.has_ended (IsPairPage P.rules P.words P.looks P.bound) options.now beside first.now.net.graph text.items) }
+    ensures fault { IfErr result (λ fault. HasNoView P.rules P.has_ended options.now first.now.net.graph fault) }
+{
+    let net = first.net();
+    let other = second.net();
+    let graph = net.graph().copy(alloc)?;
+    match pair_page::<P>(
+        alloc,
+        graph,
+        net.trace(),
+        other.trace(),
+        options.from,
+        options.to,
+    ) {
         Ok(text) => Ok(text),
         Err(PageFault::TooLarge) => Err(ServeFault::PageTooLarge),
         Err(PageFault::Memory) => Err(ServeFault::Memory),
@@ -55,8 +140,8 @@ pub(crate) fn stored_viewed<P: Ends + Viewed>(
     graph: Graph,
     events: &[Event],
 ) -> Result<Vec<u8>, ServeFault>
-    ensures text { IfOk result (λ text. IsStoredView P.rules P.has_ended (IsRunPage P.rules P.words P.looks P.bound) options.now graph events.now text.items) }
-    ensures fault { IfErr result (λ fault. HasNoStoredView P.rules P.has_ended (IsRunPage P.rules P.words P.looks P.bound) options.now graph events.now fault) }
+    ensures text { IfOk result (λ text. IsStoredView P.rules (IsRunPage P.rules P.words P.looks P.bound) options.now graph events.now text.items) }
+    ensures fault { IfErr result (λ fault. HasNoStoredView P.rules options.now graph events.now fault) }
 {
     match stored_page::<P>(alloc, graph, options.wake, events, options.from, options.to) {
         Ok(text) => Ok(text),

@@ -12,6 +12,7 @@ use crate::fault::ServeFault;
 use crate::progress::Teller;
 use crate::reading::graph_of;
 use boruvka::protocol::Boruvka;
+use echo::protocol::Echo;
 use ghs_commands::exploring::{ExploreOptions, Finding};
 use ghs_explore::explore::explore_watched;
 use ghs_explore::explored::Explored;
@@ -60,6 +61,7 @@ fn found_by<R: Eprint>(
     match protocol {
         Protocol::Ghs => found(rt, alloc, options, graph),
         Protocol::Boruvka => any_explore::found::<Boruvka, R>(rt, alloc, protocol, options, graph),
+        Protocol::Echo => any_explore::found::<Echo, R>(rt, alloc, protocol, options, graph),
     }
 }
 

@@ -14,6 +14,7 @@ use crate::any_run;
 use crate::fault::ServeFault;
 use crate::reading::{events_of, graph_of};
 use boruvka::protocol::Boruvka;
+use echo::protocol::Echo;
 use ghs_gr::device::Source;
 use ghs_graph::graph::Graph;
 use ghs_report::report_text::ReportFault;
@@ -63,6 +64,7 @@ fn replayed_by(
     match protocol {
         Protocol::Ghs => replayed(alloc, wake, graph, events),
         Protocol::Boruvka => any_run::replayed::<Boruvka>(alloc, wake, graph, events),
+        Protocol::Echo => any_run::replayed::<Echo>(alloc, wake, graph, events),
     }
 }
 

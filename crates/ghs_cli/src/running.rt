@@ -20,6 +20,7 @@ use crate::fault::ServeFault;
 use crate::progress::{Tallying, run_told, tell_end};
 use crate::reading::graph_of;
 use boruvka::protocol::Boruvka;
+use echo::protocol::Echo;
 use ghs_commands::job::{RunOptions, Show};
 use ghs_cores::text::put_ended_cores;
 use ghs_gr::device::{Sink, Source};
@@ -87,6 +88,7 @@ fn law_never_stops(protocol: Protocol)
     match protocol {
         Protocol::Ghs => {}
         Protocol::Boruvka => law_turns::<Boruvka>(),
+        Protocol::Echo => law_turns::<Echo>(),
     }
 }
 
@@ -128,6 +130,7 @@ fn ran_by<R: Threads + Wait + Eprint + Sync>(
     match protocol {
         Protocol::Ghs => ran(rt, alloc, options, graph),
         Protocol::Boruvka => any_run::ran::<Boruvka>(alloc, protocol, options, graph),
+        Protocol::Echo => any_run::ran::<Echo>(alloc, protocol, options, graph),
     }
 }
 

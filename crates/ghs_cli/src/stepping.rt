@@ -12,6 +12,7 @@ use crate::any_run;
 use crate::fault::ServeFault;
 use crate::reading::{events_of, graph_of};
 use boruvka::protocol::Boruvka;
+use echo::protocol::Echo;
 use ghs_commands::job::StepsOptions;
 use ghs_gr::device::{Sink, Source};
 use ghs_graph::graph::Graph;
@@ -63,6 +64,7 @@ fn told_by<W: Sink>(
     match protocol {
         Protocol::Ghs => told(alloc, options, graph, events, out),
         Protocol::Boruvka => any_run::told::<Boruvka, W>(alloc, options, graph, events, out),
+        Protocol::Echo => any_run::told::<Echo, W>(alloc, options, graph, events, out),
     }
 }
 

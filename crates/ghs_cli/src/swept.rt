@@ -5,6 +5,7 @@ ghost use Rattle.peer_sweep.specs.Sweep.{HasTurns};
 ghost use Rattle.std.specs.Prelude.{◌≡◌, ◌+◌, ◌≤◌, ◌^◌, All, IfOk, OnErr, length};
 
 use boruvka::protocol::Boruvka;
+use echo::protocol::Echo;
 use ghs_choices::by::By;
 use ghs_choices::schedule_kind::ScheduleKind;
 use ghs_commands::job::SweepOptions;
@@ -48,6 +49,7 @@ pub(crate) fn table_by(alloc: Global, protocol: Protocol) -> Result<Table, Alloc
     match protocol {
         Protocol::Ghs => Table::of::<Ghs>(alloc, &kinds),
         Protocol::Boruvka => Table::of::<ByRules<Boruvka>>(alloc, &kinds),
+        Protocol::Echo => Table::of::<ByRules<Echo>>(alloc, &kinds),
     }
 }
 
@@ -79,6 +81,9 @@ pub(crate) fn run_seeds_by<R: Threads + Sync>(
         Protocol::Boruvka => {
             run_seeds::<ByRules<Boruvka>, R>(rt, alloc, graph, setup, first, runs, count, threads)
         }
+        Protocol::Echo => run_seeds::<ByRules<Echo>, R>(
+            rt, alloc, graph, setup, first, runs, count, threads,
+        ),
     }
 }
 
@@ -89,6 +94,7 @@ pub(crate) fn bound_by(protocol: Protocol, graph: &Graph) -> u64
     match protocol {
         Protocol::Ghs => bound(graph.nodes(), graph.links()),
         Protocol::Boruvka => Boruvka::bound_of(graph),
+        Protocol::Echo => Echo::bound_of(graph),
     }
 }
 

@@ -14,6 +14,7 @@ use crate::beside::pair_viewed;
 use crate::fault::ServeFault;
 use crate::reading::{events_of, graph_of};
 use boruvka::protocol::Boruvka;
+use echo::protocol::Echo;
 use ghs_commands::job::{StoredViewOptions, ViewOptions};
 use ghs_gr::device::Source;
 use ghs_graph::graph::Graph;
@@ -62,6 +63,7 @@ fn viewed_by(
     match protocol {
         Protocol::Ghs => viewed(alloc, options, graph),
         Protocol::Boruvka => any_view::viewed::<Boruvka>(alloc, options, graph),
+        Protocol::Echo => any_view::viewed::<Echo>(alloc, options, graph),
     }
 }
 
@@ -166,6 +168,7 @@ fn stored_viewed_by(
     match protocol {
         Protocol::Ghs => stored_viewed(alloc, options, graph, events),
         Protocol::Boruvka => any_view::stored_viewed::<Boruvka>(alloc, options, graph, events),
+        Protocol::Echo => any_view::stored_viewed::<Echo>(alloc, options, graph, events),
     }
 }
 

@@ -110,10 +110,14 @@ page_in_step-taken : kinds_of (codes "view" ∷ codes "--protocol" ∷ codes "bo
 unfolding program clap_on_literals
 page_in_step-taken = refl
 
-two_runs_in_step-refused :
-    kinds_of (codes "view" ∷ codes "--protocol" ∷ codes "boruvka" ∷ codes "--seeds" ∷ codes "1,2" ∷ []) ≡ kind.InvalidValue ∷ []
+two_runs_in_step-taken :
+    kinds_of (codes "view" ∷ codes "--protocol" ∷ codes "boruvka" ∷ codes "--seeds" ∷ codes "1,2" ∷ []) ≡ []
 unfolding program clap_on_literals
-two_runs_in_step-refused = refl
+two_runs_in_step-taken = refl
+
+echo-taken : kinds_of (codes "explore" ∷ codes "--protocol" ∷ codes "echo" ∷ codes "map.gr" ∷ []) ≡ []
+unfolding program clap_on_literals
+echo-taken = refl
 
 -- a sweep by Borůvka in step, and what else is asked for
 abbrev in_step : List Text → List Text

@@ -115,7 +115,7 @@ wake_rule = option_rule (codes "wake") (codes "all")
 abbrev pub tree_command : App
 tree_command = with_rules (file_rule ∷ core_rule ∷ []) (new_app (codes "tree"))
 
--- `run [FILE] [--protocol ghs|boruvka] [--seed S] [--schedule seeded|patient|rounds|waits|lifo|round-robin] [--workers W] [--wake all|first]
+-- `run [FILE] [--protocol ghs|boruvka|echo] [--seed S] [--schedule seeded|patient|rounds|waits|lifo|round-robin] [--workers W] [--wake all|first]
 -- [--turns T] [--print report|trace|time] [--core] [--progress] [--tally]`
 abbrev pub run_command : App
 run_command =
@@ -124,16 +124,16 @@ run_command =
     ∷ turns_rule ∷ print_rule ∷ core_rule ∷ progress_rule ∷ tally_rule ∷ [])
     (new_app (codes "run"))
 
--- `replay TRACE [FILE] [--protocol ghs|boruvka] [--wake all|first]`
+-- `replay TRACE [FILE] [--protocol ghs|boruvka|echo] [--wake all|first]`
 abbrev pub replay_command : App
 replay_command = with_rules (trace_rule ∷ file_rule ∷ protocol_rule ∷ wake_rule ∷ []) (new_app (codes "replay"))
 
--- `steps TRACE [FILE] [--protocol ghs|boruvka] [--wake all|first] [--from A] [--to B] [--node V] [--json]`
+-- `steps TRACE [FILE] [--protocol ghs|boruvka|echo] [--wake all|first] [--from A] [--to B] [--node V] [--json]`
 abbrev pub steps_command : App
 steps_command =
     with_rules (trace_rule ∷ file_rule ∷ protocol_rule ∷ wake_rule ∷ from_rule ∷ to_rule ∷ node_rule ∷ json_rule ∷ []) (new_app (codes "steps"))
 
--- `sweep [FILE ..] [--protocol ghs|boruvka] --seeds FIRST..LAST [--schedule seeded|patient|rounds|waits|lifo|round-robin] [--workers W]
+-- `sweep [FILE ..] [--protocol ghs|boruvka|echo] --seeds FIRST..LAST [--schedule seeded|patient|rounds|waits|lifo|round-robin] [--workers W]
 -- [--wake all|first] [--turns T] [--print runs|summary|chart] [--by node|level|rule] [--names] [--json] [--progress]`
 abbrev pub sweep_command : App
 sweep_command =
@@ -142,7 +142,7 @@ sweep_command =
     ∷ turns_rule ∷ sheet_rule ∷ by_rule ∷ names_rule ∷ json_rule ∷ progress_rule ∷ [])
     (new_app (codes "sweep"))
 
--- `view [FILE] [--protocol ghs|boruvka] [--seed S] [--seeds FIRST,SECOND] [--schedule seeded|patient|rounds|waits|lifo|round-robin]
+-- `view [FILE] [--protocol ghs|boruvka|echo] [--seed S] [--seeds FIRST,SECOND] [--schedule seeded|patient|rounds|waits|lifo|round-robin]
 -- [--wake all|first] [--turns T] [--trace TRACE] [--from A] [--to B]`
 abbrev pub view_command : App
 view_command =
@@ -187,7 +187,7 @@ found_rule = record (new_rule (codes "found")) { long = Some (codes "print"); de
 abbrev pub end_rule : Rule
 end_rule = option_rule (codes "end") (codes "1")
 
--- `explore [FILE] [--protocol ghs|boruvka] [--wake all|first] [--limit STATES] [--print report|trace] [--end K] [--progress]`
+-- `explore [FILE] [--protocol ghs|boruvka|echo] [--wake all|first] [--limit STATES] [--print report|trace] [--end K] [--progress]`
 abbrev pub explore_command : App
 explore_command =
     with_rules (file_rule ∷ protocol_rule ∷ wake_rule ∷ limit_rule ∷ found_rule ∷ end_rule ∷ progress_rule ∷ []) (new_app (codes "explore"))

@@ -376,13 +376,9 @@ runs_so command =
 abbrev pub sweeps_so : Used → Bool
 sweeps_so command = is_none (value_in (codes "by") command)
 
--- what is shown does: one run
-abbrev pub shows_so : Used → Bool
-shows_so command = is_none (value_in (codes "pair") command)
-
 -- all that is asked for does
 abbrev pub fits_every : Used → Bool
-fits_every command = runs_so command && sweeps_so command && shows_so command
+fits_every command = runs_so command && sweeps_so command
 
 -- GHS goes with everything
 abbrev pub fits_by : Protocol → Used → Bool

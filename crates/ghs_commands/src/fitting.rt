@@ -1,6 +1,6 @@
 //! What doesn't go with every protocol.
 ghost use Rattle.clap.specs.Words.{subcommand_rows_of};
-ghost use Rattle.ghs_commands.specs.Job.{fits_every, is_exploration, is_sweep, runs_so, shows_so, sweeps_so};
+ghost use Rattle.ghs_commands.specs.Job.{fits_every, is_exploration, is_sweep, runs_so, sweeps_so};
 ghost use Rattle.std.specs.Prelude.{◌≡◌, is_none};
 
 use crate::job::value_of;
@@ -14,10 +14,7 @@ pub(crate) fn stranger_in<'a>(matches: &ArgMatches<'a>) -> Option<&'static str>
 {
     match stranger_of_run(matches) {
         Some(argument) => Some(argument),
-        None => match stranger_of_sweep(matches) {
-            Some(argument) => Some(argument),
-            None => stranger_of_view(matches),
-        },
+        None => stranger_of_sweep(matches),
     }
 }
 
@@ -64,16 +61,6 @@ fn stranger_of_sweep<'a>(matches: &ArgMatches<'a>) -> Option<&'static str>
 {
     match value_of(matches, "by") {
         Some(_) => Some("--by <by>"),
-        None => None,
-    }
-}
-
-/// The first that says what is shown on a page.
-fn stranger_of_view<'a>(matches: &ArgMatches<'a>) -> Option<&'static str>
-    ensures { is_none result ≡ shows_so (subcommand_rows_of matches.now) }
-{
-    match value_of(matches, "pair") {
-        Some(_) => Some("--seeds <pair>"),
         None => None,
     }
 }

@@ -450,7 +450,7 @@ fn protocol<'a>(alloc: Global) -> Arg<'a>
     ensures rule { rule_of result ≡ protocol_rule }
 {
     option(alloc, "protocol", "ghs").help(
-        "Which protocol the nodes follow: ghs, or boruvka (Borůvka in step, which runs without threads and by a seeded schedule)",
+        "Which protocol the nodes follow: ghs, boruvka (Borůvka in step) or echo (the echo wave); the last two run without threads and by a seeded schedule",
     )
 }
 

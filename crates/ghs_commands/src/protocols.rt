@@ -45,7 +45,7 @@ fn check_name<'a>(alloc: Global, matches: &ArgMatches<'a>) -> Result<(), JobFaul
     if is_protocol(value) {
         Ok(())
     } else {
-        Err(unknown_choice(alloc, "protocol", value, &["ghs", "boruvka"]))
+        Err(unknown_choice(alloc, "protocol", value, &["ghs", "boruvka", "echo"]))
     }
 }
 

@@ -195,7 +195,8 @@ function verdict(nodes) {
   const differ = nodes.length ? nodes.length + ' of ' + runs[0].see('G.nodes') + (nodes.length > 1 ? ' nodes are' : ' nodes is') + ' in another state' + (nodes.length <= 12 ? ': ' + nodes.join(', ') : '') : 'every node is in the same state';
   if (!ends) return differ[0].toUpperCase() + differ.slice(1) + '.';
   const [a, b] = runs.map(tree), weight = runs[0].see('links.filter(branchy).reduce((x, l) => x + l.weight, 0)'), cores = [...new Set(runs[0].see("nodes.filter(n => n && n.halted && n.name).map(n => n.name + ' at level ' + n.level)"))];
-  if (!whole || a !== b) return 'The last events that are shown' + (a === b ? ', and the same ' + runs[0].see('TREE()') + ' links' : '') + ': ' + differ + '.';
+  if (!whole) return 'The last events that are shown' + (a === b ? ', and the same ' + runs[0].see('TREE()') + ' links' : '') + ': ' + differ + '.';
+  if (a !== b) return 'Both have ended, in other ' + runs[0].see('TREE()') + ' links: ' + differ + '.';
   return 'Both have ended, in one tree: ' + (a ? a.split(' ').length : 0) + ' links of weight ' + weight + (cores.length ? ', the core' + (cores.length > 1 ? 's ' : ' ') + cores.slice(0, 4).join(', ') + (cores.length > 4 ? ' ..' : '') : '') + '; ' + differ + (nodes.length && runs.some(run => run.see('ledger.queued')) ? ', as messages are still on their way' : '') + '.';
 }
 const KINDS = () => runs[0].see('KINDS.map(k => [LETTER[k], NAMES[k]])');
@@ -203,7 +204,7 @@ function tell() {
   const seen = runs.map(run => run.see('({ at, to: G.to, events: G.events, bound: G.bound, sent: ledger.sent, bits: ledger.bits, consumed: ledger.consumed, requeued: ledger.requeued, queued: ledger.queued, now: figures(at) })'));
   const sum = list => list.reduce((a, b) => a + b, 0), rows = seen.map(s => [s.at + ' of ' + s.events, ...s.sent, sum(s.sent), sum(s.bits), s.now[3], sum(s.consumed), s.queued, s.requeued, s.now[0], s.now[2]]);
   $('counts').innerHTML = rows.map((row, i) => '<tr><th>' + (i ? 'Second run' : 'First run') + '</th>' + row.map((x, k) => '<td' + (x !== rows[1 - i][k] && k ? ' class="other"' : '') + '>' + x + '</td>').join('')
-    + '<td class="wide"><div class="bar" role="img" aria-label="' + row[8] + ' of ' + seen[i].bound + '"><i style="width:' + (seen[i].bound ? 100 * row[8] / seen[i].bound : 0) + '%"></i></div></td></tr>').join('');
+    + '<td class="wide"><div class="bar" role="img" aria-label="' + sum(seen[i].sent) + ' of ' + seen[i].bound + '"><i style="width:' + (seen[i].bound ? 100 * sum(seen[i].sent) / seen[i].bound : 0) + '%"></i></div></td></tr>').join('');
   const same = parts && seen.every(s => s.at < parts) && seen[0].at === seen[1].at, text = (parts ? same ? 'The same events so far; the runs part in event ' + parts + '. ' : 'The runs part in event ' + parts + '. ' : 'The runs are the same. ') + verdict(differing());
   if ($('told').textContent !== text) $('told').textContent = text;
   runs.forEach((run, i) => {

@@ -212,7 +212,7 @@ pub const TAIL: &[u8] = br##"</noembed>
 'use strict';
 const $ = id => document.getElementById(id);
 // ---- the protocol, as the data tell of it. The page has none of its own
-let P, KINDS, KIND, NAMES, LETTER, BITS, MARK, PHASE, THEN, PUTS;
+let P, KINDS, KIND, NAMES, LETTER, BITS, MARK, PHASE, THEN, PUTS, NAMED;
 // a mark's look on its half of a link
 const SHOWN = ['open', 'tree', 'closed', 'asked'];
 function adopt(o) {
@@ -228,11 +228,14 @@ function adopt(o) {
   // what reasons of deferring tell of a node, and whether there are any
   THEN = [...new Set([...Object.values(o.waits).join().matchAll(/{node\.(\w+)}/g)].map(x => x[1]))];
   PUTS = Object.keys(o.waits).length > 0;
+  NAMED = 'name' in o.opening;
   ledger = zero();
   for (let v = 1; v <= G.nodes; v++) nodes[v] = { v, ports: [], marks: [], queues: [], ...o.opening };
 }
 const asleep = n => PHASE[n.phase].look === 'asleep';
 const filled = (text, f) => text.replace(/{(?:(\w+)\.)?(\w+)}/g, (_, of, x) => f(x, of));
+// what only nodes with levels and names have
+const own = x => NAMED ? x : '';
 const TREE = () => P.marks.find(m => m.look === 'tree').name;
 const KEYS = [['left, right', 'one event back or on'], ['space', 'play, stop'], ['up, down', 'to the previous or next event of the sort chosen under "jump to"'],
   ['Page up, Page down', 'ten events'], ['Home, End', 'start, end'], ['n', 'pins the event\'s node, or lets it go'], ['[ and ]', 'pins the node before or after'],
@@ -345,9 +348,9 @@ const bornOf = m => words(m) + ' from node ' + m.from + ' to node ' + m.to + ', 
 const storyOf = m => bornOf(m) + (m.backs ? '; ' + backsOf(m) + ': ' + reasonOf(m) : '') + '.';
 
 // ---- what the page adds: components of joined links, and curves over the whole run
-const joined = l => l.halves === 5;
+const joined = l => P.ends === 1 ? branchy(l) : l.halves === 5;
 // two fragments merge over a link until an end enters the next level: till then they have one level, and two names or none
-const merging = l => joined(l) && nodes[l.a].level === nodes[l.b].level && (nodes[l.a].name !== nodes[l.b].name || !nodes[l.a].name);
+const merging = l => NAMED && joined(l) && nodes[l.a].level === nodes[l.b].level && (nodes[l.a].name !== nodes[l.b].name || !nodes[l.a].name);
 const whole = l => joined(l) && !merging(l);
 const branchy = l => l.halves >> 2 === 1 || (l.halves & 3) === 1;
 function classes(n, pairs) {
@@ -782,7 +785,7 @@ const short = m => {
   return big ? k.short + (m.level !== undefined ? ' ' + m.level : k.none ? ' ' + (m.key ? m.key.split(':')[0] : k.none[1]) : '') : k.letter;
 };
 const bandOf = f => f.band ??= f.name ? 'b' + (look.get(f.name) ?? 0) : 'bx';
-const stateOf = v => { const n = nodes[v]; return 'node ' + v + ': level ' + n.level + ', name ' + (n.name ?? '-') + ', ' + PHASE[n.phase].name + (n.halted ? ', halted' : '') + (pin === v ? ', pinned' : ''); };
+const stateOf = v => { const n = nodes[v]; return 'node ' + v + ': ' + own('level ' + n.level + ', name ' + (n.name ?? '-') + ', ') + PHASE[n.phase].name + (n.halted ? ', halted' : '') + (pin === v ? ', pinned' : ''); };
 function drawNet(c) {
   if (shaped !== zoom.k) shape();
   const s = stepNow(), frag = v => c.of[v], names = new Map([...c.all.values()].filter(f => f.name).map(f => [f.name, f]));
@@ -817,7 +820,7 @@ function drawNet(c) {
     put(n.halo, 'class', 'halo ' + bandOf(f));
     put(n.halo, 'visibility', f.nodes > 1 ? 'visible' : 'hidden');
     if (radius < LEGIBLE) continue;
-    const t = asleep(n) ? '' : 'L' + n.level;
+    const t = asleep(n) ? '' : own('L' + n.level);
     if (n.lev.textContent !== t) n.lev.textContent = t;
     if (t) put(n.lev, 'transform', n.halted ? 'translate(' + n.corner[0] * 6 + ' ' + n.corner[1] * 5 + ')' : '');
   }
@@ -1010,7 +1013,7 @@ function panel(c) {
   const fr = [...c.all.values()].sort((a, b) => b.nodes - a.nodes || a.least - b.least), many = fr.filter(f => f.nodes > 1);
   const tree = links.filter(branchy), halts = nodes.filter(x => x && x.halted).map(x => x.v);
     h = '<p><b>' + fr.length + '</b> of ' + G.nodes + ' at the start; ' + TREE() + ' links ' + tree.length + ', weight ' + tree.reduce((a, l) => a + l.weight, 0) + (halts.length ? '; <b>halted: ' + halts.slice(0, 9).join(', ') + '</b>' : '') + '</p>';
-  h += '<table><tr><th class="n">level</th><th class="n">nodes</th><th class="n">least</th><th>name (core)</th></tr>' + many.slice(0, 12).map(f => '<tr>' + td(f.level, 'n') + td(f.nodes, 'n') + td(f.least, 'n') + td('<svg class="sw s' + (look.get(f.name) ?? 'x') + '"><rect width="100%" height="100%"' + (f.name ? '' : ' fill="none"') + '/></svg>' + (f.name ?? '-')) + '</tr>').join('') + '</table>';
+  h += '<table><tr>' + own('<th class="n">level</th>') + '<th class="n">nodes</th><th class="n">least</th>' + own('<th>name (core)</th>') + '</tr>' + many.slice(0, 12).map(f => '<tr>' + own(td(f.level, 'n')) + td(f.nodes, 'n') + td(f.least, 'n') + own(td('<svg class="sw s' + (look.get(f.name) ?? 'x') + '"><rect width="100%" height="100%"' + (f.name ? '' : ' fill="none"') + '/></svg>' + (f.name ?? '-'))) + '</tr>').join('') + '</table>';
   const who = v => c.of[v].name ?? 'node ' + v;
   for (const l of links.filter(merging)) h += '<p class="merges">merging: ' + who(l.a) + ' and ' + who(l.b) + '</p>';
   h += '<p>' + (many.length > 12 ? (many.length - 12) + ' more, ' : '') + (fr.length - many.length) + ' single nodes</p>';
@@ -1050,7 +1053,7 @@ const LEGEND = () => {
   const s = (w, body) => '<span><svg width="' + w + '" height="18" viewBox="0 0 ' + w + ' 18">' + body + '</svg>', c = (cls, more = '') => '<g class="' + cls + '" transform="translate(12 9)" ><circle class="ring" r="8"/><circle class="body" r="6"/>' + more + '</g>', l = cls => '<path class="' + cls + '" d="M2 9H30"/>';
   const half = cls => '<path class="half" d="M2 9H30"/><path class="half ' + cls + '" d="M2 9H16"/>';
   return P.phases.map(x => s(24, c(x.look)) + x.legend + '</span>').join('') + s(24, c('halted', '<rect class="stop" x="-8" y="-8" width="16" height="16"/>')) + 'halted</span>'
-    + P.marks.map(m => m.look === 'tree' ? s(32, half('tree')) + m.name + ' at one end</span>' + s(32, l('half tree')) + 'joined</span>' + s(32, l('half tree') + '<path class="core" d="M2 9H30"/>') + 'core</span>'
+    + P.marks.map(m => m.look === 'tree' ? s(32, half('tree')) + m.name + ' at one end</span>' + own(s(32, l('half tree')) + 'joined</span>' + s(32, l('half tree') + '<path class="core" d="M2 9H30"/>') + 'core</span>')
       : s(32, m.look === 'closed' ? '<path class="half closed" d="M2 9H30"/><path class="cross" d="M12 5l8 8m0 -8l-8 8"/>' : m.look === 'asked' ? half('asked') + '<path class="cross" d="M10 4V14"/>' : l('half')) + m.name + '</span>').join('')
     + (PUTS ? s(30, '<g class="msg back"><path d="M4 3H20L26 9L20 15H4Z"/></g>') + 'deferred</span>' : '') + letters();
 };
@@ -1123,7 +1126,7 @@ function play() {
   $('live').setAttribute('aria-live', 'off');
   timer = $('speed').value === 'minute' ? setInterval(minute(performance.now(), at), 40) : setInterval(() => { if (at >= G.to) halt(); else if (!asking) one(1); }, +$('speed').value);
 }
-const goals = () => [['node', 'events of the node'], ['frag', 'fragments merging'], ['level', 'a level rising'], ...(PUTS ? [['waits', 'deferrals']] : []), ['wake', 'nodes waking'], ['halted', 'a halt'], ...KINDS.map(k => [k, NAMES[k]])];
+const goals = () => [['node', 'events of the node'], ['frag', 'fragments merging'], ...own([['level', 'a level rising']]), ...(PUTS ? [['waits', 'deferrals']] : []), ['wake', 'nodes waking'], ['halted', 'a halt'], ...KINDS.map(k => [k, NAMES[k]])];
 function fits(s, goal) {
   switch (goal) {
     case 'node': return s.node === (pin || (stepNow() ? stepNow().node : 1)) && !($('skip').checked && idle(s));

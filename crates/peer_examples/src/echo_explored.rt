@@ -1,5 +1,5 @@
 //! All runs of the echo wave on small networks: how many states they lead to, and with how many Explores and Echoes they end.
-//! The numbers are those of `bench/echo.py`, which explores from the rules alone.
+//! The numbers are those of `bench/echo`, which explores from the rules alone.
 use crate::playing::graph_of_text;
 use echo::protocol::Echo;
 use ghs_test_graphs::graphs::{PATH_OF_THREE, TRIANGLE, TWO_PAIRS_AND_NODE};

@@ -1,4 +1,4 @@
-//! Worked runs of the echo wave, line by line. The lines are those of `bench/echo.py`, which tells them from the rules alone.
+//! Worked runs of the echo wave, line by line. The lines are those of `bench/echo`, which tells them from the rules alone.
 use crate::playing::graph_of_text;
 use crate::runs::{ROUND, WAVE};
 use echo::protocol::Echo;
@@ -19,26 +19,26 @@ const ALL: Choice = Choice {
 };
 
 const PATH_LINES: &str = "\
-1 1 - - wake Wakes - mark.0=asked;awake=yes;awaits=1 0>2:explore 1\n\
-2 2 0 1 explore Joins done mark.0=parent;mark.1=asked;awake=yes;parent=0;awaits=1 1>3:explore 2\n\
-3 3 0 2 explore Joins done mark.0=parent;awake=yes;parent=0 0>2:echo 3\n\
-4 2 1 3 echo Hears done awaits=0 0>1:echo 4\n\
-5 1 0 2 echo Hears done awaits=0;halted=yes - 4\n\
+1 1 - - wake Wakes - mark.0=asked;phase=asking;awaits=1 0>2:explore 1\n\
+2 2 0 1 explore Joins done mark.0=parent;mark.1=asked;phase=asking;parent=0;awaits=1 1>3:explore 2\n\
+3 3 0 2 explore Joins done mark.0=parent;phase=answered;parent=0 0>2:echo 3\n\
+4 2 1 3 echo Hears done phase=answered;awaits=0 0>1:echo 4\n\
+5 1 0 2 echo Hears done phase=answered;awaits=0;halted=yes - 4\n\
 ";
 
 const TRIANGLE_LINES: &str = "\
-1 1 - - wake Wakes - mark.0=asked;mark.1=asked;awake=yes;awaits=2 0>2:explore;1>3:explore 2\n\
-2 2 0 1 explore Joins done mark.0=parent;mark.1=asked;awake=yes;parent=0;awaits=1 1>3:explore 3\n\
-3 3 1 1 explore Joins done mark.0=asked;mark.1=parent;awake=yes;parent=1;awaits=1 0>2:explore 4\n\
-4 3 0 2 explore Hears done awaits=0 1>1:echo 5\n\
-5 2 1 3 explore Hears done awaits=0 0>1:echo 6\n\
+1 1 - - wake Wakes - mark.0=asked;mark.1=asked;phase=asking;awaits=2 0>2:explore;1>3:explore 2\n\
+2 2 0 1 explore Joins done mark.0=parent;mark.1=asked;phase=asking;parent=0;awaits=1 1>3:explore 3\n\
+3 3 1 1 explore Joins done mark.0=asked;mark.1=parent;phase=asking;parent=1;awaits=1 0>2:explore 4\n\
+4 3 0 2 explore Hears done phase=answered;awaits=0 1>1:echo 5\n\
+5 2 1 3 explore Hears done phase=answered;awaits=0 0>1:echo 6\n\
 6 1 1 3 echo Hears done awaits=1 - 6\n\
-7 1 0 2 echo Hears done awaits=0;halted=yes - 6\n\
+7 1 0 2 echo Hears done phase=answered;awaits=0;halted=yes - 6\n\
 ";
 
 /// One take of the run on the path, as an object.
 const PATH_OBJECT: &str =
-    r#"{"step":3,"node":3,"port":0,"far":2,"kind":"explore","row":"Joins","fate":"done","marks":[[0,"parent"]],"set":{"awake":true,"parent":0},"send":[{"port":0,"to":2,"at":1,"kind":"echo"}],"total":3}
+    r#"{"step":3,"node":3,"port":0,"far":2,"kind":"explore","row":"Joins","fate":"done","marks":[[0,"parent"]],"set":{"phase":"answered","parent":0},"send":[{"port":0,"to":2,"at":1,"kind":"echo"}],"total":3}
 "#;
 
 /// The chosen lines of a run, in this form, are these.

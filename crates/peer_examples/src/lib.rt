@@ -2,7 +2,7 @@
 //! event by event, run by a seed, measured, explored and told line by line; and the texts of stored runs, which name their
 //! protocol.
 //!
-//! The runs, the texts, the numbers and the bits were reckoned by hand from the rules and the formats, or by `bench/echo.py`, and
+//! The runs, the texts, the numbers and the bits were reckoned by hand from the rules and the formats, or by `bench/echo`, and
 //! not taken from what the program does. The words of a seed are what SplitMix64 and Xoshiro256++ give as their authors publish them. `runs` has the
 //! runs, and `playing` the nets and worlds of a graph's text.
 #![tactic(auto)]

@@ -1,36 +1,41 @@
 -- Heads with and without a name, and what the lines say then.
-use Rattle.std.proofs.Common.{◌≡◌, ◌≢◌, ◌∙◌, ℕ, codes, List, [], ◌∷◌, ◌++◌, map, refl, sym, ap, subst, append_assoc, arith, Option, Some, None}
+use Rattle.std.proofs.Common.{◌≡◌, ◌∙◌, ℕ, Bool, true, false, cond, codes, List, [], ◌∷◌, ◌++◌, map, refl, sym, ap, subst, append_assoc, arith, Option, Some, None}
 use Rattle.std.specs.List.{AllByRecursion}
+use Rattle.std.proofs.lemmas.Bool.{cond-false}
 use Rattle.std.proofs.lemmas.Simd.{map-map}
 use Rattle.ghs_lines.specs.Fields.{fields_of}
 use Rattle.ghs_lines.specs.Lines.{lines_of}
 use Rattle.ghs_lines.proofs.lemmas.Words.{fields_of-last, fields_of-word, has_no_feed-last, has_no_feed-word, lines_of-line}
 use Rattle.peer_texts.specs.Line.{meaning_of, meanings}
-use Rattle.peer_trace.specs.Head.{fields_in, head_fields, first_fields, named_by, plain_head, plain_lines, protocol_in}
+use Rattle.peer_trace.specs.Head.{fields_in, has_name, head_fields, first_fields, named_by, plain_head, plain_lines, protocol_in, without_second}
 use Rattle.peer_trace.specs.Reading.{says}
 use Rattle.peer_trace.specs.declared.protocol.Protocol.{Protocol}
-use Rattle.peer_trace.specs.declared.protocol.Protocol.TheVariants.{Ghs, Boruvka}
+use Rattle.peer_trace.specs.declared.protocol.Protocol.TheVariants.{Ghs, Boruvka, Echo}
 use Rattle.peer_trace.proofs.Words.{AreWords, IsWord, fields_are_words}
 
 -- lines without a name
 
-plain_head-same : (named : Option Protocol) (fields : List (List ℕ)) → named ≢ Some Boruvka → plain_head named fields ≡ fields
-plain_head-same None fields other = refl
-plain_head-same (Some Ghs) fields other = refl
-plain_head-same (Some Boruvka) fields other = absurd (other refl)
+plain_head-same : (named : Option Protocol) (fields : List (List ℕ)) → has_name named ≡ false → plain_head named fields ≡ fields
+plain_head-same named fields nameless = cond-false (has_name named) (without_second fields) fields nameless
 
-pub plain_lines-same : (lines : List (List (List ℕ))) → named_by (first_fields lines) ≢ Some Boruvka → plain_lines lines ≡ lines
+pub plain_lines-same : (lines : List (List (List ℕ))) → has_name (named_by (first_fields lines)) ≡ false → plain_lines lines ≡ lines
 plain_lines-same [] other = refl
 plain_lines-same ([] ∷ lines) other = ap (λ ls. [] ∷ ls) (plain_lines-same lines other)
 plain_lines-same ((first ∷ more) ∷ lines) other =
     ap (λ fields. fields ∷ lines) (plain_head-same (named_by (first ∷ more)) (first ∷ more) other)
 
+without_second-words : (fields : List (List ℕ)) → AllByRecursion IsWord fields → AllByRecursion IsWord (without_second fields)
+without_second-words [] h = h
+without_second-words (first ∷ []) h = h
+without_second-words (first ∷ name ∷ more) h = (h.0, h.1.1)
+
+words_either : (has : Bool) (fields : List (List ℕ)) → AllByRecursion IsWord fields →
+    AllByRecursion IsWord (cond has (without_second fields) fields)
+words_either true fields h = without_second-words fields h
+words_either false fields h = h
+
 plain_head-words : (named : Option Protocol) (fields : List (List ℕ)) → AllByRecursion IsWord fields → AllByRecursion IsWord (plain_head named fields)
-plain_head-words None fields h = h
-plain_head-words (Some Ghs) fields h = h
-plain_head-words (Some Boruvka) [] h = h
-plain_head-words (Some Boruvka) (first ∷ []) h = h
-plain_head-words (Some Boruvka) (first ∷ name ∷ more) h = (h.0, h.1.1)
+plain_head-words named fields h = words_either (has_name named) fields h
 
 pub plain_lines-words : (lines : List (List (List ℕ))) → AreWords lines → AreWords (plain_lines lines)
 plain_lines-words [] h = h
@@ -44,7 +49,7 @@ meanings-fields text = map-map meaning_of fields_of (lines_of text)
 pub says-plain : (plain text : List ℕ) → fields_in plain ≡ plain_lines (fields_in text) → meanings plain ≡ says text
 says-plain plain text e = sym (meanings-fields plain) ∙ ap (map meaning_of) e
 
-pub says-same : (text : List ℕ) → protocol_in text ≢ Some Boruvka → meanings text ≡ says text
+pub says-same : (text : List ℕ) → has_name (protocol_in text) ≡ false → meanings text ≡ says text
 says-same text other = says-plain text text (sym (plain_lines-same (fields_in text) other))
 
 -- the first line of a text
@@ -64,6 +69,7 @@ pub named_head : (protocol : Protocol) (count : List ℕ) (lines : List (List (L
     named_by (first_fields (head_fields protocol count ∷ lines)) ≡ Some protocol
 named_head Ghs count lines = refl
 named_head Boruvka count lines = refl
+named_head Echo count lines = refl
 
 pub protocol_in-named : (text line after count : List ℕ) (protocol : Protocol) → lines_of text ≡ line ∷ lines_of after →
     fields_of line ≡ head_fields protocol count → protocol_in text ≡ Some protocol
@@ -80,18 +86,19 @@ protocol_in-other text line after first more e fields none =
 pub plain_lines-other : (text line after first : List ℕ) (more : List (List ℕ)) → lines_of text ≡ line ∷ lines_of after →
     fields_of line ≡ first ∷ more → named_by (fields_of line) ≡ None → plain_lines (fields_in text) ≡ fields_in text
 plain_lines-other text line after first more e fields none =
-    plain_lines-same (fields_in text)
-    (λ is. let no : None ≡ Some Boruvka = sym (protocol_in-other text line after first more e fields none) ∙ is in cc)
+    plain_lines-same (fields_in text) (ap has_name (protocol_in-other text line after first more e fields none))
 
 -- a head's count is a word
 count_word : (protocol : Protocol) (count : List ℕ) (lines : List (List (List ℕ))) → AreWords (head_fields protocol count ∷ lines) → IsWord count
 count_word Ghs count lines h = h.0.1.0
 count_word Boruvka count lines h = h.0.1.1.0
+count_word Echo count lines h = h.0.1.1.0
 
 pub plain_named : (protocol : Protocol) (count : List ℕ) (lines : List (List (List ℕ))) →
     plain_lines (head_fields protocol count ∷ lines) ≡ (codes "trace" ∷ count ∷ []) ∷ lines
 plain_named Ghs count lines = refl
 plain_named Boruvka count lines = refl
+plain_named Echo count lines = refl
 
 counted_line : (count after : List ℕ) → IsWord count →
     fields_in (codes "trace " ++ count ++ 10 ∷ after) ≡ (codes "trace" ∷ count ∷ []) ∷ fields_in after

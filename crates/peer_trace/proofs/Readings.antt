@@ -10,13 +10,13 @@ use Rattle.peer_texts.specs.Reading.{HaveFault, IsTrace, line_fault}
 use Rattle.peer_texts.specs.declared.fault.TraceFault.{TraceFault}
 use Rattle.peer_texts.specs.declared.line.Line.{Line}
 use Rattle.peer_texts.specs.declared.line.Line.TheVariants.{Passed, Malformed}
-use Rattle.peer_trace.specs.Head.{fields_in, first_fields, named_by, plain_lines, protocol_in}
+use Rattle.peer_trace.specs.Head.{fields_in, first_fields, has_name, named_by, plain_lines, protocol_in}
 use Rattle.peer_trace.specs.Laws.{AreReadAsBefore, HasOneProtocol, IsOneReadingOf}
 use Rattle.peer_trace.specs.Reading.{HasEventsOf, HasFaultOf, IsNoOther, says}
 use Rattle.peer_trace.specs.declared.fault.StoredFault.{StoredFault}
 use Rattle.peer_trace.specs.declared.fault.StoredFault.TheVariants.{Other, Trace}
 use Rattle.peer_trace.specs.declared.protocol.Protocol.{Protocol}
-use Rattle.peer_trace.specs.declared.protocol.Protocol.TheVariants.{Ghs, Boruvka}
+use Rattle.peer_trace.specs.declared.protocol.Protocol.TheVariants.{Ghs, Boruvka, Echo}
 use Rattle.peer_trace.proofs.Heads.{meanings-fields, plain_lines-words, says-plain, says-same}
 use Rattle.peer_trace.proofs.Words.{fields_are_words, fields_in-text, text_of}
 
@@ -78,8 +78,13 @@ one_of_lines law text =
 same_or_not : (protocol other : Protocol) → (protocol ≡ other) ⊎ (protocol ≢ other)
 same_or_not Ghs Ghs = inl refl
 same_or_not Ghs Boruvka = inr (λ e. cc)
+same_or_not Ghs Echo = inr (λ e. cc)
 same_or_not Boruvka Ghs = inr (λ e. cc)
 same_or_not Boruvka Boruvka = inl refl
+same_or_not Boruvka Echo = inr (λ e. cc)
+same_or_not Echo Ghs = inr (λ e. cc)
+same_or_not Echo Boruvka = inr (λ e. cc)
+same_or_not Echo Echo = inl refl
 
 abbrev HasReading : Protocol → List ℕ → Type 0
 HasReading protocol text =
@@ -98,8 +103,7 @@ another protocol other text e h = subst (IsNoOther protocol) e h
 -- the lines of a trace name the protocol
 pub trace_named : (text : List ℕ) (events : List Event) → IsTrace (says text) events → protocol_in text ≡ None → ⊥
 trace_named text events trace none =
-    let other : protocol_in text ≢ Some Boruvka = λ e. (let no : None ≡ Some Boruvka = sym none ∙ e in cc) in
-    let lines = meanings-fields text ∙ says-same text other in
+    let lines = meanings-fields text ∙ says-same text (ap has_name none) in
     let named = head_named (fields_in text) events (subst (λ ls. IsTrace ls events) (sym lines) trace) in
     let no : None ≡ Some Ghs = sym none ∙ named in
     cc
@@ -147,8 +151,12 @@ one_protocol text protocol other events others h i = same_Some protocol other (s
 
 -- runs of GHS
 
+ghs_has_no_name : (named : Option Protocol) → IsNoOther Ghs named → has_name named ≡ false
+ghs_has_no_name None h = refl
+ghs_has_no_name (Some named) h = ap (λ p. has_name (Some p)) h
+
 own_lines : (text : List ℕ) → IsNoOther Ghs (protocol_in text) → says text ≡ meanings text
-own_lines text h = sym (says-same text (λ e. let no : Boruvka ≡ Ghs = another Ghs Boruvka text e h in cc))
+own_lines text h = sym (says-same text (ghs_has_no_name (protocol_in text) h))
 
 pub read_as_before : (text : List ℕ) → AreReadAsBefore text
 read_as_before text = record {

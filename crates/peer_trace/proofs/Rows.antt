@@ -6,7 +6,7 @@ use Rattle.peer_texts.specs.declared.line.Line.TheVariants.{Passed, Malformed, H
 use Rattle.peer_trace.specs.Head.{protocol_in}
 use Rattle.peer_trace.specs.Reading.{says}
 use Rattle.peer_trace.specs.Text.{stored_text}
-use Rattle.peer_trace.specs.declared.protocol.Protocol.TheVariants.{Ghs, Boruvka}
+use Rattle.peer_trace.specs.declared.protocol.Protocol.TheVariants.{Ghs, Boruvka, Echo}
 
 abbrev line : List ℕ → List ℕ
 line bytes = bytes ++ (10 ∷ [])
@@ -21,6 +21,10 @@ of_boruvka : stored_text Boruvka (event.Wake 12 ∷ []) ≡ line (codes "trace b
 unfolding digits
 of_boruvka = refl
 
+of_echo : stored_text Echo (event.Wake 12 ∷ []) ≡ line (codes "trace echo 1") ++ line (codes "wake 12")
+unfolding digits
+of_echo = refl
+
 -- what a head names
 
 ghs_named : protocol_in (line [] ++ codes "trace 3") ≡ Some Ghs
@@ -28,6 +32,9 @@ ghs_named = refl
 
 boruvka_named : protocol_in (line (codes " ") ++ line (codes "trace  boruvka x") ++ codes "trace 3") ≡ Some Boruvka
 boruvka_named = refl
+
+echo_named : protocol_in (line (codes "trace echo x")) ≡ Some Echo
+echo_named = refl
 
 none_for_ghs : protocol_in (codes "trace ghs 3") ≡ None
 none_for_ghs = refl

@@ -1,21 +1,24 @@
 -- The head of a stored run, which names its protocol.
-use Rattle.std.specs.Prelude.{ℕ, codes, cond, map, List, [], ◌∷◌, Option, Some, None}
+use Rattle.std.specs.Prelude.{ℕ, Bool, false, codes, cond, map, List, [], ◌∷◌, Option, Some, None}
 use Rattle.std.specs.Str.{bytes_eq}
 use Rattle.ghs_lines.specs.Fields.{fields_of}
 use Rattle.ghs_lines.specs.Lines.{lines_of}
-use Rattle.peer_trace.specs.Protocol.{name_of}
+use Rattle.peer_trace.specs.Protocol.{is_in_heads, name_of}
 use Rattle.peer_trace.specs.declared.protocol.Protocol.{Protocol}
-use Rattle.peer_trace.specs.declared.protocol.Protocol.TheVariants.{Ghs, Boruvka}
+use Rattle.peer_trace.specs.declared.protocol.Protocol.TheVariants.{Ghs, Boruvka, Echo}
 
 -- the fields of a head: `trace COUNT` of GHS, and of another protocol its name between the two
 abbrev pub head_fields : Protocol → List ℕ → List (List ℕ)
-head_fields Ghs count = codes "trace" ∷ count ∷ []
-head_fields Boruvka count = codes "trace" ∷ name_of Boruvka ∷ count ∷ []
+head_fields protocol count = codes "trace" ∷ cond (is_in_heads protocol) (name_of protocol ∷ count ∷ []) (count ∷ [])
+
+-- the protocol that a head names so
+abbrev pub named_so : List ℕ → Option Protocol
+named_so name = cond (bytes_eq name (name_of Boruvka)) (Some Boruvka) (cond (bytes_eq name (name_of Echo)) (Some Echo) None)
 
 -- the protocol that the fields behind a `trace` name
 abbrev pub named_behind : List (List ℕ) → Option Protocol
 named_behind (count ∷ []) = Some Ghs
-named_behind (name ∷ count ∷ []) = cond (bytes_eq name (name_of Boruvka)) (Some Boruvka) None
+named_behind (name ∷ count ∷ []) = named_so name
 named_behind _ = None
 
 -- the protocol that a line names as the head: none where its fields are no head's
@@ -37,10 +40,19 @@ first_fields ((first ∷ others) ∷ more) = first ∷ others
 abbrev pub protocol_in : List ℕ → Option Protocol
 protocol_in text = named_by (first_fields (fields_in text))
 
+-- whether a head that names this has a name in it
+abbrev pub has_name : Option Protocol → Bool
+has_name None = false
+has_name (Some protocol) = is_in_heads protocol
+
+-- fields without the second
+abbrev pub without_second : List (List ℕ) → List (List ℕ)
+without_second (first ∷ name ∷ more) = first ∷ more
+without_second fields = fields
+
 -- the fields of a head that names this protocol, without the name
 abbrev pub plain_head : Option Protocol → List (List ℕ) → List (List ℕ)
-plain_head (Some Boruvka) (first ∷ name ∷ more) = first ∷ more
-plain_head _ fields = fields
+plain_head named fields = cond (has_name named) (without_second fields) fields
 
 -- the same lines, but that in the head no name stands
 abbrev pub plain_lines : List (List (List ℕ)) → List (List (List ℕ))

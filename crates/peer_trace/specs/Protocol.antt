@@ -1,15 +1,23 @@
 -- The names of protocols.
-use Rattle.std.specs.Prelude.{ℕ, codes, cond, List, Option, Some, None}
+use Rattle.std.specs.Prelude.{ℕ, Bool, true, false, codes, cond, List, Option, Some, None}
 use Rattle.std.specs.Str.{bytes_eq}
 use Rattle.peer_trace.specs.declared.protocol.Protocol.{Protocol}
-use Rattle.peer_trace.specs.declared.protocol.Protocol.TheVariants.{Ghs, Boruvka}
+use Rattle.peer_trace.specs.declared.protocol.Protocol.TheVariants.{Ghs, Boruvka, Echo}
 
 abbrev pub name_of : Protocol → List ℕ
 name_of Ghs = codes "ghs"
 name_of Boruvka = codes "boruvka"
+name_of Echo = codes "echo"
+
+-- whether the heads of its stored runs name it, as they do each but GHS
+abbrev pub is_in_heads : Protocol → Bool
+is_in_heads Ghs = false
+is_in_heads Boruvka = true
+is_in_heads Echo = true
 
 -- the protocol of a name
 abbrev pub protocol_named : List ℕ → Option Protocol
 protocol_named name =
     cond (bytes_eq name (codes "ghs")) (Some Ghs)
-    (cond (bytes_eq name (codes "boruvka")) (Some Boruvka) None)
+    (cond (bytes_eq name (codes "boruvka")) (Some Boruvka)
+    (cond (bytes_eq name (codes "echo")) (Some Echo) None))

@@ -1,16 +1,15 @@
 -- The text of a stored run.
-use Rattle.std.specs.Prelude.{ℕ, codes, decimal, length, ◌++◌, List, [], ◌∷◌}
+use Rattle.std.specs.Prelude.{ℕ, codes, cond, decimal, length, ◌++◌, List, [], ◌∷◌}
 use Rattle.std.specs.List.{flat_map}
 use Rattle.peer_network.specs.declared.event.Event.{Event}
 use Rattle.peer_texts.specs.Text.{event_text, head_text}
-use Rattle.peer_trace.specs.Protocol.{name_of}
+use Rattle.peer_trace.specs.Protocol.{is_in_heads, name_of}
 use Rattle.peer_trace.specs.declared.protocol.Protocol.{Protocol}
-use Rattle.peer_trace.specs.declared.protocol.Protocol.TheVariants.{Ghs, Boruvka}
 
 -- `trace COUNT`, or with the protocol's name between the two
 abbrev pub named_head_text : Protocol → ℕ → List ℕ
-named_head_text Ghs count = head_text count
-named_head_text Boruvka count = codes "trace " ++ name_of Boruvka ++ codes " " ++ decimal count ++ 10 ∷ []
+named_head_text protocol count =
+    cond (is_in_heads protocol) (codes "trace " ++ name_of protocol ++ codes " " ++ decimal count ++ 10 ∷ []) (head_text count)
 
 -- the head, and a line for each event
 abbrev pub stored_text : Protocol → List Event → List ℕ

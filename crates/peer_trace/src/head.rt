@@ -1,7 +1,8 @@
 //! The head of a text: which protocol it names, and the text without that name.
 ghost use Rattle.ghs_lines.specs.Fields.{fields_of};
-ghost use Rattle.peer_trace.specs.Head.{fields_in, head_fields, named_behind, named_by, plain_lines, protocol_in};
-ghost use Rattle.std.specs.Prelude.{IfNone, IfOk, IfSome, None, codes, ◌∷◌, ◌≡◌};
+ghost use Rattle.peer_trace.specs.Head.{fields_in, head_fields, named_behind, named_by, named_so, plain_lines, protocol_in};
+ghost use Rattle.peer_trace.specs.Protocol.{is_in_heads, name_of};
+ghost use Rattle.std.specs.Prelude.{IfNone, IfOk, IfSome, None, codes, true, ◌∷◌, ◌≡◌};
 
 use crate::protocol::Protocol;
 use ghs_lines::fields::{next_field, one_field, two_fields};
@@ -68,8 +69,17 @@ fn behind_word(fields: &[u8]) -> Option<(Protocol, &[u8])>
         return Some((Protocol::Ghs, count));
     }
     let (name, count) = two_fields(fields)?;
-    if name != Protocol::Boruvka.name().as_bytes() {
-        return None;
+    Some((named_so(name)?, count))
+}
+
+/// The protocol that a head names so.
+fn named_so(name: &[u8]) -> Option<Protocol>
+    ensures some { IfSome result (λ p. (name.now ≡ name_of p) × (is_in_heads p ≡ true)) }
+    ensures none { IfNone result (named_so name.now ≡ None) }
+{
+    match name {
+        b"boruvka" => Some(Protocol::Boruvka),
+        b"echo" => Some(Protocol::Echo),
+        _ => None,
     }
-    Some((Protocol::Boruvka, count))
 }

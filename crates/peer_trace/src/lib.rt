@@ -1,7 +1,7 @@
 //! Texts of stored runs whose head names the protocol.
 //!
 //! A run of GHS is stored as `trace COUNT` and a line for each event, as `peer_texts` writes and reads it. A run of another
-//! protocol has its name in the head: `trace boruvka COUNT`.
+//! protocol has its name in the head: `trace boruvka COUNT`, `trace echo COUNT`.
 //!
 //! Proved: `write_trace_of` writes exactly that text (`stored_text`). `read_trace_of` gives the events exactly where the head
 //! names the protocol that is asked for and the lines are a trace's (`HasEventsOf`); a text whose head names another one is
@@ -9,7 +9,7 @@
 //! is read back, and refused when another protocol is asked for (`law_stored_trace`); a text has one reading
 //! (`law_one_stored_reading`); runs of GHS are read as `peer_texts` reads them (`law_ghs_trace`).
 //!
-//! Whether the events are a run of a graph isn't asked here. A text of Borůvka in step is copied once, without the name, to be
+//! Whether the events are a run of a graph isn't asked here. A text whose head has a name is copied once, without it, to be
 //! read. Read `specs/Head.antt` first. Next: `peer_texts`, which has the lines and the faults.
 #![tactic(auto)]
 

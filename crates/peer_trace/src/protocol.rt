@@ -1,5 +1,5 @@
 //! The protocols whose runs are stored.
-ghost use Rattle.peer_trace.specs.Protocol.{name_of, protocol_named};
+ghost use Rattle.peer_trace.specs.Protocol.{is_in_heads, name_of, protocol_named};
 ghost use Rattle.std.specs.Prelude.{Some, ◌≡◌};
 
 /// A protocol whose runs are stored.
@@ -9,6 +9,8 @@ pub enum Protocol {
     Ghs,
     /// Borůvka in step.
     Boruvka,
+    /// The echo wave.
+    Echo,
 }
 
 impl Protocol {
@@ -26,6 +28,7 @@ impl Protocol {
         match self {
             Protocol::Ghs => "ghs",
             Protocol::Boruvka => "boruvka",
+            Protocol::Echo => "echo",
         }
     }
 
@@ -39,6 +42,19 @@ impl Protocol {
         if name == "boruvka" {
             return Some(Protocol::Boruvka);
         }
+        if name == "echo" {
+            return Some(Protocol::Echo);
+        }
         None
+    }
+
+    /// Whether the heads of its stored runs name it.
+    pub(crate) fn is_in_heads(self) -> bool
+        ensures { result ≡ is_in_heads self }
+    {
+        match self {
+            Protocol::Ghs => false,
+            Protocol::Boruvka | Protocol::Echo => true,
+        }
     }
 }

@@ -1,13 +1,12 @@
 //! The text of a stored run, written and read.
 ghost use Rattle.peer_texts.specs.Reading.{HaveFault, IsTrace};
 ghost use Rattle.peer_texts.specs.declared.fault.TraceFault.TheVariants.{Memory};
-ghost use Rattle.peer_trace.specs.Head.{protocol_in};
+ghost use Rattle.peer_trace.specs.Head.{has_name, protocol_in};
 ghost use Rattle.peer_trace.specs.Protocol.{name_of};
 ghost use Rattle.peer_trace.specs.Reading.{HasEventsOf, HasFaultOf, IsNoOther, says};
 ghost use Rattle.peer_trace.specs.Text.{stored_text};
 ghost use Rattle.peer_trace.specs.declared.fault.StoredFault.TheVariants.{Trace};
-ghost use Rattle.peer_trace.specs.declared.protocol.Protocol.TheVariants.{Boruvka};
-ghost use Rattle.std.specs.Prelude.{IfErr, IfNone, IfOk, IfSome, IsTrue, Some, codes, drop, length, ◌++◌, ◌≡◌, ◌≢◌, ◌≤◌, ◌↔◌};
+ghost use Rattle.std.specs.Prelude.{IfErr, IfNone, IfOk, IfSome, Some, codes, drop, length, ◌++◌, ◌≡◌, ◌≢◌, ◌≤◌};
 
 use crate::fault::StoredFault;
 use crate::head::{protocol_of, without_name};
@@ -34,10 +33,10 @@ pub fn write_trace_of(
     ensures { IfOk result (λ text. text.items ≡ stored_text protocol events.now) }
 {
     let text = write_trace(alloc, events)?;
-    match protocol {
-        Protocol::Ghs => Ok(text),
-        Protocol::Boruvka => with_name(alloc, protocol, &text),
+    if protocol.is_in_heads() {
+        return with_name(alloc, protocol, &text);
     }
+    Ok(text)
 }
 
 /// A trace's text with the name of a protocol in front of its count.
@@ -95,9 +94,12 @@ fn read_named(alloc: Global, named: Option<Protocol>, text: &[u8]) -> Result<Vec
     read_trace(alloc, &plain)
 }
 
-/// Whether a head that names this has a name in it, as it has for every protocol but GHS.
+/// Whether a head that names this has a name in it.
 fn has_name(named: Option<Protocol>) -> bool
-    ensures { IsTrue result ↔ (named ≡ Some Boruvka) }
+    ensures { result ≡ has_name named }
 {
-    matches!(named, Some(Protocol::Boruvka))
+    match named {
+        Some(protocol) => protocol.is_in_heads(),
+        None => false,
+    }
 }

@@ -6,6 +6,6 @@ run_page-requires g c = record { run = rw (c.in_ok-graph.ensures, c.graph.ensure
 pub returns-in-Ok-clause-text : goal.returns-in-Ok-clause-text
 returns-in-Ok-clause-text g c = record {
   events = c.args.world.now.net.trace;
-  run = c.requires;
+  run = c.requires.run;
   page = rw (c.in_ok-graph.ensures, c.graph.ensures, c.trace.ensures.trace, c.net-net.ensures.net) at c.in-Ok.ensures.page;
 }

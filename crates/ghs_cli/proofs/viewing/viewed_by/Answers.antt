@@ -5,3 +5,6 @@ returns-in-Ghs-clause-text c = rw c.in-Ghs.is c.viewed.ensures.text
 
 pub returns-in-Boruvka-clause-text : goal.returns-in-Boruvka-clause-text
 returns-in-Boruvka-clause-text c = rw c.in-Boruvka.is c.viewed-in-Boruvka.ensures.text
+
+pub returns-in-Echo-clause-text : goal.returns-in-Echo-clause-text
+returns-in-Echo-clause-text c = rw c.in-Echo.is c.viewed-in-Echo.ensures.text
