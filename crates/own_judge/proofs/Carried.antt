@@ -99,4 +99,4 @@ went_on book kinds g h es done owns i d own v asked asked' old new l same_g same
 pub own_is : (owns : List Own) (u v : ℕ) (x : Own) → u ≡ v → u - 1 < length owns → x ≡ get_or owns (u - 1) x → x ≡ own_at owns v
 own_is owns u v x same lt is =
     let at : slice_get owns (u - 1) ≡ Some x = slice_get_read owns (length owns) (u - 1) x refl lt is in
-    rw (sym same) (sym (get_or_from_slice_get owns (u - 1) x own.Unknown at))
+    rw (sym same) (sym (get_or_from_slice_get owns (u - 1) x own.Unopened at))

@@ -19,7 +19,7 @@ use Rattle.peer_network.specs.Events.{event_node}
 
 -- what is known of node v, where these are the nodes from 1 on
 abbrev pub own_at : List Own → ℕ → Own
-own_at owns v = slice_index_or owns (v - 1) own.Unknown
+own_at owns v = slice_index_or owns (v - 1) own.Unopened
 
 -- the node's state is known as long as its book agrees
 abbrev pub own_after : Look → Own

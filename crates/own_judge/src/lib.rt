@@ -5,6 +5,7 @@ mod asking;
 pub mod deed;
 pub mod end;
 pub mod judge;
+pub mod laws;
 pub mod look;
 pub mod question;
 pub mod report;
