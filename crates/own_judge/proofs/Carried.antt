@@ -1,6 +1,5 @@
 -- What the judge carries from event to event.
-use Rattle.std.proofs.Common.{◌≡◌, ◌+◌, ◌-◌, ◌<◌, ◌∙◌, ◌||◌, ℕ, suc, Bool, true, false, Option, Some, None, List, [], ◌∷◌, ◌++◌, length, get_or, take, drop, refl, sym, ap, ap₂, subst, append_assoc, append-nil, add-one, drop-cons}
-use Rattle.std.specs.List.{flat_map}
+use Rattle.std.proofs.Common.{◌≡◌, ◌+◌, ◌-◌, ◌<◌, ◌∙◌, ℕ, Bool, true, false, Some, None, List, [], ◌∷◌, ◌++◌, length, get_or, take, drop, refl, sym, ap, ap₂, append_assoc, append-nil, add-one, drop-cons}
 use Rattle.std.specs.Prelude.{slice_get, slice_set}
 use Rattle.std.proofs.lemmas.List.{take_more}
 use Rattle.std.proofs.lemmas.Option.{get_or_from_slice_get, slice_get-get_or, slice_get_read}
@@ -9,9 +8,8 @@ use Rattle.own_book.specs.Entry.{Entry}
 use Rattle.own_judge.specs.Judging.{GoesOn, HasDecided, HasWeighed, IsTold, carried, is_open}
 use Rattle.own_judge.specs.Look.{look_at}
 use Rattle.own_judge.specs.Report.{amiss_text, difference_text, event_text, row_text}
-use Rattle.own_judge.specs.Verdict.{Asks, Verdict, line, looks_behind, own_after, own_at, question_line, questions_in, verdict_from}
+use Rattle.own_judge.specs.Verdict.{Asks, Verdict, line, looks_behind, own_after, own_at, question_line, questions_in}
 use Rattle.own_judge.specs.declared.end.End.{End}
-use Rattle.own_judge.specs.declared.end.End.TheVariants as end
 use Rattle.own_judge.specs.declared.look.Look.{Look}
 use Rattle.own_judge.specs.declared.look.Look.TheVariants as look
 use Rattle.own_judge.specs.declared.look.Own.{Own}

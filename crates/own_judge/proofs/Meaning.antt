@@ -1,12 +1,12 @@
 -- What verdicts mean.
-use Rattle.std.proofs.Common.{◌≡◌, ℕ, zero, suc, ◌+◌, ◌-◌, ◌<◌, List, [], ◌∷◌, ◌++◌, length, get_or, replicate, Option, Some, None, refl, sym, ap, subst, arith, ◌∙◌}
-use Rattle.std.specs.Prelude.{slice_get, slice_set}
+use Rattle.std.proofs.Common.{◌≡◌, ℕ, zero, suc, ◌+◌, ◌-◌, ◌<◌, List, [], ◌∷◌, ◌++◌, length, get_or, replicate, refl, sym, ap, subst, arith}
+use Rattle.std.specs.Prelude.{slice_set}
 use Rattle.ghs_graph.specs.Graph.{Shape}
 use Rattle.own_book.specs.Entry.{Entry}
 use Rattle.own_judge.proofs.Cases.{silent_own}
 use Rattle.own_judge.specs.Laws.{AgreesAt, Behind, IsFirstOther, MeansVerdict}
 use Rattle.own_judge.specs.Look.{asking, greeting_of, look_at}
-use Rattle.own_judge.specs.Verdict.{Agreed, Asks, Differed, Failed, Ungreeted, Verdict, behind_greeting, looks, looks_behind, own_after, own_at, verdict, verdict_from}
+use Rattle.own_judge.specs.Verdict.{Agreed, Differed, Failed, behind_greeting, looks, looks_behind, own_after, own_at, verdict_from}
 use Rattle.own_judge.specs.declared.look.Amiss.{Amiss}
 use Rattle.own_judge.specs.declared.look.Difference.{Difference}
 use Rattle.own_judge.specs.declared.look.Greeting.{Greeting}

@@ -1,8 +1,8 @@
 -- What verdicts mean.
-use Rattle.std.specs.Prelude.{◌≡◌, ℕ, ◌<◌, Bool, length, slice_get, List, Option, Some, None}
+use Rattle.std.specs.Prelude.{◌≡◌, ℕ, ◌<◌, Bool, length, slice_get, List, Some, None}
 use Rattle.ghs_graph.specs.Graph.{Shape}
 use Rattle.own_answers.specs.Sends.{SameAtPorts}
-use Rattle.own_book.specs.Answer.{opens, reacts, saying, sends_in}
+use Rattle.own_book.specs.Answer.{opens, reacts, saying}
 use Rattle.own_book.specs.Entry.{Entry, told_in}
 use Rattle.own_book.specs.declared.question.Asked.TheVariants as asked
 use Rattle.own_judge.specs.Deed.{DeedState, deed_in}

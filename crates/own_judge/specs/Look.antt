@@ -1,5 +1,5 @@
 -- What comes of asking the book at an event.
-use Rattle.std.specs.Prelude.{◌≡◌, ℕ, Bool, true, cond, List, [], Option, Some, None}
+use Rattle.std.specs.Prelude.{◌≡◌, ℕ, Bool, true, cond, List, Option, Some, None}
 use Rattle.ghs_graph.specs.Graph.{Shape}
 use Rattle.ghs_graph.specs.declared.port.Port.{Port}
 use Rattle.ghs_node.specs.declared.work.Work.{Work}

@@ -1,5 +1,5 @@
 -- What is printed of a verdict.
-use Rattle.std.specs.Prelude.{◌≡◌, ℕ, ◌+◌, Bool, true, false, cond, codes, decimal, length, take, slice_get, List, [], ◌∷◌, ◌++◌, Option, Some, None}
+use Rattle.std.specs.Prelude.{◌≡◌, ℕ, ◌+◌, Bool, cond, codes, decimal, length, take, slice_get, List, [], ◌∷◌, ◌++◌, Option, Some, None}
 use Rattle.std.specs.List.{flat_map}
 use Rattle.ghs_core.specs.NetState.{work_at}
 use Rattle.ghs_graph.specs.Graph.{Shape}
@@ -14,7 +14,7 @@ use Rattle.own_answers.specs.declared.fault.AnswerFault.{AnswerFault}
 use Rattle.own_answers.specs.declared.fault.AnswerFault.TheVariants.{Garbled, GivesUp, NoKind, NoPort, StillAsleep}
 use Rattle.own_book.specs.Entry.{Entry}
 use Rattle.own_judge.specs.Deed.{DeedState, deed_of}
-use Rattle.own_judge.specs.Verdict.{Agreed, Asks, Differed, Failed, Ungreeted, Verdict, end_of, line, verdict}
+use Rattle.own_judge.specs.Verdict.{Agreed, Asks, Differed, Failed, Ungreeted, Verdict, end_of, verdict}
 use Rattle.own_judge.specs.declared.end.End.{End}
 use Rattle.own_judge.specs.declared.look.Amiss.{Amiss}
 use Rattle.own_judge.specs.declared.look.Difference.{Difference}

@@ -1,9 +1,6 @@
-use Rattle.std.proofs.Common.{◌≡◌, ◌∙◌, ◌-◌, ap, sym, length}
-use Rattle.std.specs.Prelude.{slice_set}
+use Rattle.std.proofs.Common.{◌∙◌, length}
 use Rattle.std.proofs.lemmas.List.{length-set}
 use Rattle.ghs_steps.proofs.lemmas.{lawful_net}
-use Rattle.own_judge.specs.Judging.{HasWeighed}
-use Rattle.own_judge.specs.declared.look.Own.{Own}
 use Rattle.peer_network.specs.declared.event.Event.TheVariants.{Wake}
 use Rattle.own_judge.proofs.Carried.{ended, own_is, went_on}
 use Rattle.own_judge.proofs.Going.{node_low, place_within, trace_more}
