@@ -45,7 +45,7 @@ book_status (cause.Reading fault) = status_of fault
 -- the text is that of a book with these entries
 pub record IsBookText (said : List ℕ) (entries : List Entry) : Type 0 where
   pub short : IsTooLong said → ⊥
-  pub entries : HasEntries said entries
+  pub has : HasEntries said entries
 
 -- why a book isn't read; the reader and memory may fail for any
 abbrev pub IsReadCause : List ℕ → ServeFault → Type 0

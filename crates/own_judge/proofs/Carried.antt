@@ -65,8 +65,8 @@ looks_more book kinds g es owns i d lt =
     ∙ ap (λ (fs : List Event). l ∷ looks_behind book kinds g fs more (drop (i + 1) es)) (sym (take_more es i d lt))
 
 -- what has been told where an event ends the judging
-pub ended : (book : List Entry) (kinds : List ℕ) (g h : Shape) (es done : List Event) (owns : List Own) (i : ℕ) (d : Event) (own : Own) (v : Verdict)
-    (asked asked' : Bool) (old new : List ℕ) (l : Look) (ends : End) → h ≡ g → done ≡ take i es → i < length es →
+pub ended : (book : List Entry) (kinds : List ℕ) (g h : Shape) (es done : List Event) (owns : List Own) (i : ℕ) (d : Event) (own : Own)
+    (v : Verdict) (asked asked' : Bool) (old new : List ℕ) (l : Look) (ends : End) → h ≡ g → done ≡ take i es → i < length es →
     own ≡ own_at owns (event_node (get_or es i d)) → l ≡ look_at book kinds h done (get_or es i d) own →
     v ≡ carried asked old i (looks_behind book kinds g (take i es) owns (drop i es)) → (asked ≡ false → old ≡ []) →
     HasWeighed h done (get_or es i d) l asked old asked' new (Some ends) → IsTold g es v ends new
@@ -80,8 +80,8 @@ ended book kinds g h es done owns i d own v asked asked' old new l ends same_g s
     rw all (ended_here g es i e l ls old new ends (none decided.0) at (rw (sym same_g, sym same_done) decided.1))
 
 -- what is carried where the judging goes on
-pub went_on : (book : List Entry) (kinds : List ℕ) (g h : Shape) (es done : List Event) (owns : List Own) (i : ℕ) (d : Event) (own : Own) (v : Verdict)
-    (asked asked' : Bool) (old new : List ℕ) (l : Look) → h ≡ g → done ≡ take i es → i < length es →
+pub went_on : (book : List Entry) (kinds : List ℕ) (g h : Shape) (es done : List Event) (owns : List Own) (i : ℕ) (d : Event) (own : Own)
+    (v : Verdict) (asked asked' : Bool) (old new : List ℕ) (l : Look) → h ≡ g → done ≡ take i es → i < length es →
     own ≡ own_at owns (event_node (get_or es i d)) → l ≡ look_at book kinds h done (get_or es i d) own →
     v ≡ carried asked old i (looks_behind book kinds g (take i es) owns (drop i es)) → GoesOn l asked old asked' new →
     v ≡ carried asked' new (i + 1)

@@ -1,6 +1,5 @@
 -- The node of each event of a run has its place.
-use Rattle.std.proofs.Common.{◌≡◌, ◌+◌, ◌-◌, ◌≤◌, ◌<◌, ◌∙◌, ℕ, List, ◌∷◌, [], ◌++◌, length, get_or, take, ap, arith, sym}
-use Rattle.std.proofs.lemmas.List.{take_more}
+use Rattle.std.proofs.Common.{◌≡◌, ◌-◌, ◌≤◌, ◌<◌, ℕ, List, length, get_or, take, ap, arith}
 use Rattle.ghs_core.proofs.lemmas.Lawful.{lawful_node}
 use Rattle.ghs_core.specs.NetState.{NetState, net_of, network}
 use Rattle.ghs_graph.specs.Graph.{Shape}
@@ -22,8 +21,3 @@ place_within s g es i d v places graph trace run lt is many =
     let at = lawful_node (network s) (net_of s) (get_or es i d) (lawful_net s g es i d graph trace run lt) in
     let same : s.graph.nodes ≡ g.nodes = ap (λ (x : Shape). x.nodes) graph in
     omega (arith, at.0, at.1)
-
-pub trace_more : (s new : NetState) (es : List Event) (i : ℕ) (d : Event) → s.trace ≡ take i es → i < length es →
-    new.trace ≡ s.trace ++ get_or es i d ∷ [] →
-    new.trace ≡ take (i + 1) es
-trace_more s new es i d trace lt more = more ∙ (ap (λ (fs : List Event). fs ++ get_or es i d ∷ []) trace ∙ sym (take_more es i d lt))

@@ -1,9 +1,10 @@
-use Rattle.std.proofs.Common.{◌∙◌, length}
-use Rattle.std.proofs.lemmas.List.{length-set}
+use Rattle.std.proofs.Common.{◌∙◌, ◌∷◌, ◌++◌, [], List, ap, get_or, length, sym}
+use Rattle.std.proofs.lemmas.List.{length-set, take_more}
 use Rattle.ghs_steps.proofs.lemmas.{lawful_net}
+use Rattle.peer_network.specs.declared.event.Event.{Event}
 use Rattle.peer_network.specs.declared.event.Event.TheVariants.{Wake}
 use Rattle.own_judge.proofs.Carried.{ended, own_is, went_on}
-use Rattle.own_judge.proofs.Going.{node_low, place_within, trace_more}
+use Rattle.own_judge.proofs.Going.{node_low, place_within}
 use Rattle.own_judge.proofs.judge.go_over.Goals as goal
 
 pub answer-requires : goal.answer-requires
@@ -76,7 +77,9 @@ loop-event-preserved c =
     c.in_ok-look.look inv.graph inv.trace lt known c.in_ok-look.ensures inv.same weighed in
     record {
       graph = c.in_ok-play.ensures.graph ∙ inv.graph;
-      trace = trace_more c.loop-event.net c.play.new.net c.args.events.now c.loop-event.event-index (Wake 0) inv.trace lt c.in_ok-play.ensures.trace;
+      trace = c.in_ok-play.ensures.trace
+          ∙ (ap (λ (fs : List Event). fs ++ get_or c.args.events.now c.loop-event.event-index (Wake 0) ∷ []) inv.trace
+          ∙ sym (take_more c.args.events.now c.loop-event.event-index (Wake 0) lt));
       nodes = length-set _ _ _ ∙ inv.nodes;
       places = inv.places;
       empty = weighed.unasked;
