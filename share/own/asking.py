@@ -2,13 +2,18 @@
 
 A node's program is any program that reads questions, one a line, and writes an answer for each, one a line. It is a function of
 the question and of the greeting and openings before it: nothing else may change an answer. docs/FORMATS.md, "Book text", has the
-lines; node.py is a library for programs in Python.
+lines; nodes/node.py is a library for programs in Python, which finds it wherever it stands.
 """
+import os
 import queue
+import re
 import shlex
 import subprocess
 import threading
 
+NODES = os.path.join(os.path.dirname(os.path.realpath(__file__)), "nodes")
+# what `ghs judge` says of a line of the book; a book that is filled here has a line for each entry
+NO_ANSWER = re.compile(r"ghs: book: line (\d+): (?:not a question with an answer|more than)")
 LINE_BYTES = 1 << 20        # the bytes that a line of a book may have
 LINES = 1 << 20             # the lines that a book may have
 
@@ -39,7 +44,8 @@ class Node:
 
     def __init__(self, command, seconds):
         self.seconds = seconds
-        self.program = subprocess.Popen(shlex.split(command), stdin=subprocess.PIPE, stdout=subprocess.PIPE)
+        pipes = {"stdin": subprocess.PIPE, "stdout": subprocess.PIPE}
+        self.program = subprocess.Popen(shlex.split(command), env={**os.environ, "PYTHONPATH": NODES}, **pipes)
         self.lines = queue.Queue()
         threading.Thread(target=self._read, daemon=True).start()
 
@@ -73,7 +79,10 @@ class Node:
     def close(self):
         self.program.kill()
         self.program.wait()
-        self.program.stdin.close()
+        try:
+            self.program.stdin.close()
+        except OSError:
+            pass
         self.program.stdout.close()
 
 
@@ -104,6 +113,9 @@ class Book:
         while True:
             command = [self.ghs, "judge", trace, graph, "--book", self.path, "--wake", wake]
             ran = subprocess.run(command, capture_output=True, text=True, check=False)
+            garbled = NO_ANSWER.match(ran.stderr)
+            if garbled:
+                raise Fault("GARBLED", *list(self.entries.items())[int(garbled[1]) - 1])
             if ran.returncode != 7:
                 return ran.returncode, ran.stdout, ran.stderr
             with open(self.path, "a", encoding="ascii", errors="backslashreplace") as file:
