@@ -10,10 +10,12 @@ use std::process::Abort;
 
 /// Two nodes and their link: both wake, and node 2 takes the Connect.
 const PAIR: &[u8] = b"p sp 2 2\na 1 2 5\na 2 1 5";
+
 const EVENTS: [Event; 3] = [Event::Wake(1), Event::Wake(2), Event::Take(2, 0)];
 
 /// The first lines of the book of a node that does as the table.
-const BOOK: &str = "own 1 = own 1 mine connect(level) initiate(level,key,bit)\nopen 1 5:1-2 = a=1\nopen 2 5:1-2 = b=1\nwake 1 a=1 = a=2 done 0>connect(0)\nwake 2 b=1 = b=2 done 0>connect(0)\n";
+const BOOK: &str =
+    "own 1 = own 1 mine connect(level) initiate(level,key,bit)\nopen 1 5:1-2 = a=1\nopen 2 5:1-2 = b=1\nwake 1 a=1 = a=2 done 0>connect(0)\nwake 2 b=1 = b=2 done 0>connect(0)\n";
 
 fn check(rt: &impl Abort, alloc: Global, lines: &str, end: End, text: &str) {
     let whole = String::from_str(alloc, BOOK).ok();
@@ -67,14 +69,14 @@ fn a_node_differs(rt: HostRuntime) {
 
 #[test]
 fn a_question_is_open(rt: HostRuntime) {
-    check(
+    check(&rt, rt.alloc(), "", End::Asks, "take 2 0 connect(0) b=2\n");
+    judged(
         &rt,
         rt.alloc(),
-        "",
+        b"",
         End::Asks,
-        "take 2 0 connect(0) b=2\n",
+        "own 1\nopen 1 5:1-2\nopen 2 5:1-2\n",
     );
-    judged(&rt, rt.alloc(), b"", End::Asks, "own 1\nopen 1 5:1-2\nopen 2 5:1-2\n");
 }
 
 #[test]
