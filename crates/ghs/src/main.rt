@@ -10,20 +10,29 @@
 
 ghost use Rattle.ghs.specs.Status.{IsStatusOf, IsStatusOfJob, status_unread};
 ghost use Rattle.ghs_cli.specs.Fault.{status_of};
+ghost use Rattle.ghs_cli.specs.Judging.{book_status};
+ghost use Rattle.peer_texts.specs.declared.trace.TheConstants.{EVENT_LIMIT};
 ghost use Rattle.ghs_cli.specs.Serving.{IfStored, IsBoundedTask, IsUnread, Serves, is_write};
 ghost use Rattle.ghs_cli.specs.declared.fault.ServeFault.{ServeFault};
 ghost use Rattle.ghs_commands.specs.Job.{AreSweepLimits, IsWithinLimits, kinds_of};
 ghost use Rattle.std.specs.IoError.{error_kind};
 ghost use Rattle.std.specs.Vec.Iter.{into_iter_items, into_iter_len};
-ghost use Rattle.std.specs.Prelude.{◌≡◌, ◌⊎◌, ◌↔◌, IfErr, IfOk, IfSome, IsErrOf, MatchResult, None, drop, false, length, map, string_bytes, true};
+ghost use Rattle.std.specs.Prelude.{◌≡◌, ◌≤◌, ◌⊎◌, ◌↔◌, IfErr, IfOk, IfSome, IsErrOf, MatchResult, None, drop, false, length, map, string_bytes, true};
 
 use ghs_cli::fault::ServeFault;
+use ghs_cli::judging::{BookCause, judge_run, read_book_of};
 use ghs_cli::networks::{Network, read_network, sweep_networks};
+use ghs_cli::reading::{events_of, graph_of};
 use ghs_cli::serve::serve;
 use ghs_commands::job::{Job, JobFault, SweepOptions, Task, read_job};
 use ghs_commands::values::is_dash;
 use ghs_gr::device::{Device, Source};
+use ghs_graph::graph::Graph;
 use ghs_report::write_out::write_out;
+use own_book::book::Book;
+use own_judge::end::End;
+use peer_network::event::Event;
+use peer_network::wake_set::WakeSet;
 use peer_trace::protocol::Protocol;
 use std::alloc::{AllocError, Global};
 use std::env::Args;
@@ -100,7 +109,8 @@ fn answer<R: Runtime + AllocGlobal + Threads + Wait + Sync>(
     }
 }
 
-/// Does the job, and gives the exit status. A sweep whose lines begin with names is one of networks.
+/// Does the job, and gives the exit status. A sweep whose lines begin with names is one of networks, and a replay that has a
+/// book is judged by it.
 fn fulfil<R: Runtime + AllocGlobal + Threads + Wait + Sync>(rt: &R, alloc: Global, job: &Job) -> u8
     requires { IsWithinLimits job.now.task }
     ensures { IsStatusOfJob result }
@@ -109,6 +119,7 @@ fn fulfil<R: Runtime + AllocGlobal + Threads + Wait + Sync>(rt: &R, alloc: Globa
         Task::Sweep { protocol, options } if !job.networks.is_empty() => {
             sweep(rt, alloc, *protocol, options, &job.networks)
         }
+        Task::Replay { protocol: _, wake } if job.book.is_some() => judge(rt, alloc, *wake, job),
         _ => finish(rt, do_job(rt, alloc, job)),
     }
 }
@@ -155,6 +166,84 @@ fn network_of<R: Runtime + AllocGlobal>(
     match File::open(rt, name) {
         Ok(file) => read_network(alloc, name, &mut Device::of(file)),
         Err(_) => Err(ServeFault::Read),
+    }
+}
+
+/// Reads the book, the trace and the graph, judges the run, and gives the exit status.
+fn judge<R: Runtime + AllocGlobal>(rt: &R, alloc: Global, wake: WakeSet, job: &Job) -> u8
+    ensures { IsStatusOfJob result }
+{
+    if reads_input_and_a_file(job) && !has_input(rt) {
+        return tell(rt, &ServeFault::Read);
+    }
+    let book = match book_of(rt, alloc, job.book.as_ref()) {
+        Ok(book) => book,
+        Err(cause) => return tell_cause(rt, &cause),
+    };
+    match judged(rt, alloc, wake, job, &book) {
+        Ok(end) => end.status(),
+        Err(cause) => tell(rt, &cause),
+    }
+}
+
+/// Opens the book's file and reads it. A file that can't be opened can't be read.
+fn book_of<R: Runtime + AllocGlobal>(
+    rt: &R,
+    alloc: Global,
+    path: Option<&String>,
+) -> Result<Book, BookCause> {
+    let Some(path) = path else {
+        return Err(BookCause::Reading(ServeFault::Read));
+    };
+    match File::open(rt, path.as_str()) {
+        Ok(file) => read_book_of(alloc, &mut Device::of(file)),
+        Err(_) => Err(BookCause::Reading(ServeFault::Read)),
+    }
+}
+
+/// Reads the trace and the graph, and judges the run.
+fn judged<R: Runtime + AllocGlobal>(
+    rt: &R,
+    alloc: Global,
+    wake: WakeSet,
+    job: &Job,
+    book: &Book,
+) -> Result<End, ServeFault> {
+    let events = stored_of(rt, alloc, job.trace.as_ref())?;
+    let graph = built_of(rt, alloc, job.graph.as_ref())?;
+    let mut out = Device::of(io::writer(rt));
+    judge_run(alloc, wake, graph, &events, book, &mut out)
+}
+
+/// Opens the trace's file and reads it; `-`, or no name, is standard input.
+fn stored_of<R: Runtime + AllocGlobal>(
+    rt: &R,
+    alloc: Global,
+    path: Option<&String>,
+) -> Result<Vec<Event>, ServeFault>
+    ensures { IfOk result (λ events. length events.items ≤ EVENT_LIMIT) }
+{
+    match path {
+        Some(path) if !is_dash(path) => match File::open(rt, path.as_str()) {
+            Ok(file) => events_of(alloc, Protocol::Ghs, &mut Device::of(file)),
+            Err(_) => Err(ServeFault::Read),
+        },
+        _ => events_of(alloc, Protocol::Ghs, &mut Device::of(rt.reader())),
+    }
+}
+
+/// Opens the graph's file and reads it; `-`, or no name, is standard input.
+fn built_of<R: Runtime + AllocGlobal>(
+    rt: &R,
+    alloc: Global,
+    path: Option<&String>,
+) -> Result<Graph, ServeFault> {
+    match path {
+        Some(path) if !is_dash(path) => match File::open(rt, path.as_str()) {
+            Ok(file) => graph_of(alloc, &mut Device::of(file)),
+            Err(_) => Err(ServeFault::Read),
+        },
+        _ => graph_of(alloc, &mut Device::of(rt.reader())),
     }
 }
 
@@ -266,6 +355,14 @@ fn tell<R: Runtime>(rt: &R, fault: &ServeFault) -> u8
     ensures { result ≡ status_of fault.now }
 {
     tell_behind(rt, "", fault)
+}
+
+/// Says why there is no book, and gives the exit status.
+fn tell_cause<R: Runtime>(rt: &R, cause: &BookCause) -> u8
+    ensures { result ≡ book_status cause.now }
+{
+    let _ = eprintln!(rt; "ghs: {cause}");
+    cause.status()
 }
 
 /// Says what went wrong with a file, which is named, and gives the exit status.

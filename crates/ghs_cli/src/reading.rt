@@ -15,7 +15,7 @@ use peer_trace::trace::read_trace_of;
 use std::alloc::Global;
 
 /// The graph whose text the device gives.
-pub(crate) fn graph_of<R: Source>(alloc: Global, graph: &mut R) -> Result<Graph, ServeFault>
+pub fn graph_of<R: Source>(alloc: Global, graph: &mut R) -> Result<Graph, ServeFault>
     requires { R.has_failed graph.old ≡ false }
     ensures text { IfOk result (λ built. IfSome (R.left graph.old) (λ input. IsTextOf input built)) }
     ensures fault { IfErr result (λ fault. IfSome (R.left graph.old) (λ input. IsGraphCause input fault)) }
@@ -31,7 +31,7 @@ pub(crate) fn graph_of<R: Source>(alloc: Global, graph: &mut R) -> Result<Graph,
 }
 
 /// The events whose text the device gives, of a run of a protocol.
-pub(crate) fn events_of<T: Source>(
+pub fn events_of<T: Source>(
     alloc: Global,
     protocol: Protocol,
     trace: &mut T,

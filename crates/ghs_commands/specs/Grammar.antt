@@ -133,6 +133,14 @@ abbrev pub steps_command : App
 steps_command =
     with_rules (trace_rule ∷ file_rule ∷ protocol_rule ∷ wake_rule ∷ from_rule ∷ to_rule ∷ node_rule ∷ json_rule ∷ []) (new_app (codes "steps"))
 
+-- `--book`: the book by which a stored run is judged
+abbrev pub book_rule : Rule
+book_rule = record (new_rule (codes "book")) { long = Some (codes "book"); required = true }
+
+-- `judge TRACE [FILE] --book BOOK [--wake all|first]`
+abbrev pub judge_command : App
+judge_command = with_rules (trace_rule ∷ file_rule ∷ book_rule ∷ wake_rule ∷ []) (new_app (codes "judge"))
+
 -- `sweep [FILE ..] [--protocol ghs|boruvka|echo] --seeds FIRST..LAST [--schedule seeded|patient|rounds|waits|lifo|round-robin] [--workers W]
 -- [--wake all|first] [--turns T] [--print runs|summary|chart] [--by node|level|rule] [--names] [--json] [--progress]`
 abbrev pub sweep_command : App
@@ -197,6 +205,7 @@ unfoldable pub program : App
 program =
     let networks = with_subcommand (with_subcommand (new_app (codes "ghs")) tree_command.top) run_command.top in
     let stored = with_subcommand (with_subcommand networks replay_command.top) steps_command.top in
-    let shown = with_subcommand (with_subcommand stored sweep_command.top) view_command.top in
+    let judged = with_subcommand stored judge_command.top in
+    let shown = with_subcommand (with_subcommand judged sweep_command.top) view_command.top in
     let a = with_subcommand (with_subcommand shown make_command.top) explore_command.top in
     record a { top = record a.top { has_version = true; subcommand_required = true } }

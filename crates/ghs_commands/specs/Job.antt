@@ -243,10 +243,14 @@ pub record AreExploreOptions (command : Used) (o : ExploreOptions) : Type 0 wher
   pub end : o.end ≡ number_at (codes "end") 1 4294967295 command
   pub progress : IsToldOf command o.progress
 
+-- a command of this name plays a stored run again, perhaps beside the node that a book is
+abbrev pub PlaysAgain : Option Text → Type 0
+PlaysAgain name = (name ≡ Some (codes "replay")) ⊎ (name ≡ Some (codes "judge"))
+
 -- it has another name than these
 pub record IsNoOther (command : Used) : Type 0 where
   pub run : name_in command ≢ Some (codes "run")
-  pub replay : name_in command ≢ Some (codes "replay")
+  pub replay : PlaysAgain (name_in command) → ⊥
   pub steps : name_in command ≢ Some (codes "steps")
   pub sweep : name_in command ≢ Some (codes "sweep")
   pub view : name_in command ≢ Some (codes "view")
@@ -265,11 +269,15 @@ pub record IsOf (command : Used) (name : Text) (protocol : Protocol) : Type 0 wh
   pub named : name_in command ≡ Some name
   pub by : protocol_in command ≡ protocol
 
+pub record IsReplayOf (command : Used) (protocol : Protocol) : Type 0 where
+  pub named : PlaysAgain (name_in command)
+  pub by : protocol_in command ≡ protocol
+
 -- the task that a command asks for
 abbrev pub IsTask : Used → Task → Type 0
 IsTask command (task.Tree core) = IsNoOther command × IsCoreOf command core
 IsTask command (task.Run p options) = IsOf command (codes "run") p × AreOptions command options
-IsTask command (task.Replay p wake) = IsOf command (codes "replay") p × IsWake command wake
+IsTask command (task.Replay p wake) = IsReplayOf command p × IsWake command wake
 IsTask command (task.Steps p options) = IsOf command (codes "steps") p × AreStepsOptions command options
 IsTask command (task.Sweep p options) = IsOf command (codes "sweep") p × AreSweepOptions command options
 IsTask command (task.View p options) = IsOf command (codes "view") p × IsOfSeed command × AreViewOptions command options

@@ -1,7 +1,7 @@
 //! The words that the program takes.
 ghost use Rattle.clap.specs.Words.{App, app_of, new_app, rule_of, with_subcommand};
 ghost use Rattle.clap.specs.declared.builder.command.Command.TheViews.{out-Command};
-ghost use Rattle.ghs_commands.specs.Grammar.{by_rule, core_rule, end_rule, explore_command, file_rule, files_rule, flag_rule, found_rule, from_rule, json_rule, kind_rule, limit_rule, links_rule, make_command, names_rule, node_rule, nodes_rule, option_rule, pair_rule, place_rule, print_rule, program, progress_rule, protocol_rule, replay_command, run_command, schedule_rule, seed_rule, seeds_rule, sheet_rule, steps_command, sweep_command, tally_rule, to_rule, trace_rule, tree_command, turns_rule, valued_rule, view_command, wake_rule, weights_rule, with_rules, workers_rule, stored_rule};
+ghost use Rattle.ghs_commands.specs.Grammar.{by_rule, core_rule, end_rule, explore_command, file_rule, book_rule, judge_command, files_rule, flag_rule, found_rule, from_rule, json_rule, kind_rule, limit_rule, links_rule, make_command, names_rule, node_rule, nodes_rule, option_rule, pair_rule, place_rule, print_rule, program, progress_rule, protocol_rule, replay_command, run_command, schedule_rule, seed_rule, seeds_rule, sheet_rule, steps_command, sweep_command, tally_rule, to_rule, trace_rule, tree_command, turns_rule, valued_rule, view_command, wake_rule, weights_rule, with_rules, workers_rule, stored_rule};
 ghost use Rattle.std.specs.List.{All};
 ghost use Rattle.std.specs.Prelude.{◌≡◌, IfOk, false, map};
 
@@ -20,7 +20,8 @@ pub fn program<'a>(alloc: Global) -> Result<Command<'a>, AllocError>
         .about("Minimum spanning trees of networks")
         .version(VERSION)
         .subcommand_required(true);
-    with_shows(alloc, with_runs(alloc, command)?)
+    let command = with_command(with_runs(alloc, command)?, judge(alloc))?;
+    with_shows(alloc, command)
 }
 
 /// What runs a network, and plays a run again.
@@ -128,6 +129,20 @@ fn steps<'a>(alloc: Global) -> Result<Command<'a>, AllocError>
         alloc,
         "steps",
         "Prints one line for each event of a stored run: what the event does",
+        arguments,
+    )?)
+}
+
+/// `ghs judge`.
+fn judge<'a>(alloc: Global) -> Result<Command<'a>, AllocError>
+    ensures local { IfOk result (λ command. (out-Command command).has_globals ≡ false) }
+    ensures app { IfOk result (λ command. app_of command ≡ judge_command) }
+{
+    let arguments = vec![in alloc; trace(alloc), file(alloc), book(alloc), wake(alloc)]?;
+    Ok(command(
+        alloc,
+        "judge",
+        "Compares a node of your own with the protocol, event by event of a stored run",
         arguments,
     )?)
 }
@@ -330,6 +345,16 @@ fn trace<'a>(alloc: Global) -> Arg<'a>
     Arg::new(alloc, "TRACE")
         .help("The stored run, as the text of its events; - is standard input")
         .required(true)
+}
+
+/// The book's file.
+fn book<'a>(alloc: Global) -> Arg<'a>
+    ensures local { result.global ≡ false }
+    ensures rule { rule_of result ≡ book_rule }
+{
+    valued(alloc, "book", "book").required(true).help(
+        "The file of the book: what your node answers, in lines QUESTION = ANSWER",
+    )
 }
 
 /// The number of the first event that is shown.

@@ -1,14 +1,14 @@
 //! Command lines.
 ghost use Rattle.ghs_commands.specs.declared.job.JobFault.TheVariants.{Memory};
 ghost use Rattle.ghs_commands.specs.Grammar.{program};
-ghost use Rattle.ghs_commands.specs.Job.{AreNetworks, AreOptions, IsAsked, kind_in, links_in, weights_in, AreStepsOptions, IsChoice, AreSweepLimits, AreSweepOptions, AreWithinLimits, by_in, command_in, first_seed_in, has_choices, has_course, has_events, has_figures, has_network, has_numbers, has_prints, has_seeds, has_sizes, has_sources, has_values, kinds_of, name_in, node_in, number_at, option_kinds, pair_in, protocol_in, second_seed_in, seeds_at, value_in, with_name, IsForm, IsOfSeed, IsScheduleKind, IsRefused, IsSaid, IsSaidOf, IsSheet, IsShow, IsTask, IsWake, IsWithinLimits, AreStoredViewOptions, AreViewLimits, AreViewOptions};
+ghost use Rattle.ghs_commands.specs.Job.{AreNetworks, AreOptions, IsAsked, kind_in, links_in, weights_in, AreStepsOptions, IsChoice, AreSweepLimits, AreSweepOptions, AreWithinLimits, by_in, command_in, first_seed_in, has_choices, has_course, has_events, has_figures, has_network, has_numbers, has_prints, has_seeds, has_sizes, has_sources, has_values, kinds_of, name_in, node_in, number_at, option_kinds, pair_in, protocol_in, second_seed_in, seeds_at, value_in, with_name, IsForm, IsOfSeed, IsScheduleKind, IsRefused, PlaysAgain, IsSaid, IsSaidOf, IsSheet, IsShow, IsTask, IsWake, IsWithinLimits, AreStoredViewOptions, AreViewLimits, AreViewOptions};
 ghost use Rattle.ghs_commands.specs.Values.{AreSeeds, are_apart, are_weights, is_among, is_kind, is_number, is_range};
 ghost use Rattle.ghs_commands.specs.Networks.{are_read_once, values_in};
 ghost use Rattle.ghs_commands.specs.Parts.{go_together, is_part};
 ghost use Rattle.ghs_commands.specs.TwoSeeds.{are_two};
 ghost use Rattle.clap.specs.Words.{kind_of, subcommand_rows_of};
 ghost use Rattle.std.specs.Option.{option_map};
-ghost use Rattle.std.specs.Prelude.{◌≡◌, ◌≤◌, ◌↔◌, ◌∷◌, [], IfErr, IfOk, IfSome, OnErr, OnOk, Some, codes, false, map, string_bytes, true};
+ghost use Rattle.std.specs.Prelude.{◌≡◌, ◌≤◌, ◌↔◌, ◌∷◌, [], IfErr, IfOk, IfSome, IsTrue, OnErr, OnOk, Some, codes, false, map, string_bytes, true};
 
 use crate::exploring::{ExploreOptions, MOST_STATES, exploration_of};
 use crate::grammar::program;
@@ -162,7 +162,7 @@ pub enum Task {
         protocol: Protocol,
         options: RunOptions,
     },
-    /// Play a stored run again.
+    /// Play a stored run again, beside the node that a book is where the job has one.
     Replay {
         protocol: Protocol,
         wake: WakeSet,
@@ -198,12 +198,14 @@ pub enum Task {
 
 /// What a command line asks for: the file of the graph (standard input where there is none, or it is `-`), the file of a
 /// stored trace (standard input where it is `-`), the files of the networks of a sweep whose lines begin with names (none
-/// where one network is swept without its name; one at most is `-`, standard input), and the task.
+/// where one network is swept without its name; one at most is `-`, standard input), the file of the book by which a stored
+/// run is judged (none where it's only played again), and the task.
 #[derive(Debug, Drop)]
 pub struct Job {
     pub graph: Option<String>,
     pub trace: Option<String>,
     pub networks: Vec<String>,
+    pub book: Option<String>,
     pub task: Task,
 }
 
@@ -239,6 +241,7 @@ pub fn read_job(alloc: Global, words: &[String]) -> Result<Job, JobFault>
     ensures trace { IfOk result (λ job. option_map string_bytes job.trace ≡ value_in (codes "TRACE") (command_in (map string_bytes words.now))) }
     ensures graph { IfOk result (λ job. option_map string_bytes job.graph ≡ value_in (codes "FILE") (command_in (map string_bytes words.now))) }
     ensures networks { IfOk result (λ job. AreNetworks (command_in (map string_bytes words.now)) (map string_bytes job.networks.items)) }
+    ensures book { IfOk result (λ job. option_map string_bytes job.book ≡ value_in (codes "book") (command_in (map string_bytes words.now))) }
     ensures limits { IfOk result (λ job. IsWithinLimits job.task) }
     ensures taken { OnOk result (kinds_of (map string_bytes words.now) ≡ []) }
     ensures fault { IfErr result (IsSaidOf (kinds_of (map string_bytes words.now))) }
@@ -268,6 +271,7 @@ fn job_of<'a>(alloc: Global, matches: &ArgMatches<'a>) -> Result<Job, JobFault>
     ensures trace { IfOk result (λ job. option_map string_bytes job.trace ≡ value_in (codes "TRACE") (subcommand_rows_of matches.now)) }
     ensures graph { IfOk result (λ job. option_map string_bytes job.graph ≡ value_in (codes "FILE") (subcommand_rows_of matches.now)) }
     ensures networks { IfOk result (λ job. AreNetworks (subcommand_rows_of matches.now) (map string_bytes job.networks.items)) }
+    ensures book { IfOk result (λ job. option_map string_bytes job.book ≡ value_in (codes "book") (subcommand_rows_of matches.now)) }
     ensures limits { IfOk result (λ job. IsWithinLimits job.task) }
     ensures taken { OnOk result (option_kinds (subcommand_rows_of matches.now) ≡ []) }
     ensures fault { IfErr result (IsSaidOf (option_kinds (subcommand_rows_of matches.now))) }
@@ -280,6 +284,7 @@ fn job_of<'a>(alloc: Global, matches: &ArgMatches<'a>) -> Result<Job, JobFault>
         graph: owned(alloc, value_of(matches, "FILE"))?,
         trace: owned(alloc, value_of(matches, "TRACE"))?,
         networks: networks_of(alloc, matches)?,
+        book: owned(alloc, value_of(matches, "book"))?,
         task: task_of(matches),
     })
 }
@@ -614,7 +619,7 @@ fn task_of<'a>(matches: &ArgMatches<'a>) -> Task
     if matches.subcommand_name() == Some("run") {
         let options = options_of(matches);
         Task::Run { protocol, options }
-    } else if matches.subcommand_name() == Some("replay") {
+    } else if plays_again(matches.subcommand_name()) {
         let wake = wake_of(matches);
         Task::Replay { protocol, wake }
     } else if matches.subcommand_name() == Some("steps") {
@@ -635,6 +640,13 @@ fn task_of<'a>(matches: &ArgMatches<'a>) -> Task
             core: is_text(value_of(matches, "core"), "true"),
         }
     }
+}
+
+/// Whether the command of this name plays a stored run again.
+fn plays_again(name: Option<&str>) -> bool
+    ensures { IsTrue result ↔ PlaysAgain (option_map (λ t. t.now) name.entry) }
+{
+    name == Some("replay") || name == Some("judge")
 }
 
 /// How a network is to be run.

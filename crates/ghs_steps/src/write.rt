@@ -120,7 +120,7 @@ fn show(
 }
 
 /// What the event's node does. A lawful event has a rule, so only memory can run out.
-fn answer(alloc: Global, net: &Net, event: Event) -> Result<Delta, AllocError>
+pub fn answer(alloc: Global, net: &Net, event: Event) -> Result<Delta, AllocError>
     requires { IsLawful net.now event }
     ensures answer { IfOk result (λ d. IsAnswer net.now event d) }
     ensures row { IfOk result (λ d. Row ((net_of net.now).node (event_node event)) (work_at (net_of net.now) event) d) }
@@ -188,8 +188,8 @@ fn put_line(
     }
 }
 
-/// The event happens.
-fn play(net: &mut Net, event: Event, delta: &Delta) -> Result<(), AllocError>
+/// The event happens. Refusal: out of memory.
+pub fn play(net: &mut Net, event: Event, delta: &Delta) -> Result<(), AllocError>
     requires lawful { IsLawful net.old event }
     requires answer { IsAnswer net.old event delta.now }
     requires few { length net.old.trace < 2 ^ 40 }

@@ -35,10 +35,18 @@ impl Posted {
         Posted { port, message }
     }
 
-    fn port(&self) -> u32
+    /// Its port.
+    pub fn port(&self) -> u32
         ensures { result ≡ self.now.0 }
     {
         self.port
+    }
+
+    /// Its text.
+    pub fn message(&self) -> &[u8]
+        ensures { result.now ≡ self.now.1 }
+    {
+        self.message.as_slice()
     }
 
     /// Whether both are the same message at the same port.

@@ -64,7 +64,7 @@ impl Book {
     }
 
     /// The same, with the number of the line that says it first.
-    fn told(&self, question: &[u8]) -> Option<(u64, &[u8])>
+    pub fn told(&self, question: &[u8]) -> Option<(u64, &[u8])>
         ensures some { IfSome result (λ x. told_in self.now question.now ≡ Some (x.0, x.1.now)) }
         ensures none { IfNone result (entry_for self.now question.now ≡ None) }
     {

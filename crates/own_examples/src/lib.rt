@@ -5,3 +5,5 @@
 mod answers;
 #[cfg(test)]
 mod books;
+#[cfg(test)]
+mod judged;

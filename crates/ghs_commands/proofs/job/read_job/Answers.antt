@@ -55,6 +55,10 @@ pub returns-in-Ok-clause-networks : goal.returns-in-Ok-clause-networks
 returns-in-Ok-clause-networks c =
     subst (λ (u : Used). IfOk c.job_of.result (λ job. AreNetworks u (map string_bytes job.networks.items))) (command_is c) c.job_of.ensures.networks
 
+pub returns-in-Ok-clause-book : goal.returns-in-Ok-clause-book
+returns-in-Ok-clause-book c = subst (λ (u : Used). IfOk c.job_of.result (λ job. option_map string_bytes job.book ≡ value_in (codes "book") u))
+    (command_is c) c.job_of.ensures.book
+
 pub returns-in-Ok-clause-taken : goal.returns-in-Ok-clause-taken
 returns-in-Ok-clause-taken c =
     subst (λ (k : Kinds). OnOk c.job_of.result (k ≡ [])) (values_alone _ _ (command_is c) (no_fault c)) c.job_of.ensures.taken

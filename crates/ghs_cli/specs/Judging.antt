@@ -1,0 +1,87 @@
+-- What the program says of a stored run that a book judges.
+use Rattle.std.specs.Prelude.{◌≡◌, ℕ, ◌<◌, true, List, length, Option, Result, Ok, Err}
+use Rattle.ghs_gr.specs.Text.{IsTooLong}
+use Rattle.ghs_gr.specs.declared.text.TextFault.{TextFault}
+use Rattle.ghs_gr.specs.declared.text.TextFault.TheVariants as text
+use Rattle.ghs_graph.specs.Graph.{Shape}
+use Rattle.ghs_protocol.specs.Run.{IsRunUnder}
+use Rattle.ghs_report.specs.Writing.{HasWritten}
+use Rattle.ghs_sched.specs.Replays.{IsFirstUnlawful}
+use Rattle.own_book.specs.Book.{HasEntries, HasFault}
+use Rattle.own_book.specs.Entry.{Entry}
+use Rattle.own_book.specs.declared.fault.BookFault.{BookFault}
+use Rattle.own_book.specs.declared.fault.BookFault.TheVariants as book
+use Rattle.own_judge.specs.Report.{IsJudgement}
+use Rattle.own_judge.specs.declared.end.End.{End}
+use Rattle.peer_network.specs.Network.{network_of}
+use Rattle.peer_network.specs.Wakes.{may_wake}
+use Rattle.peer_network.specs.declared.event.Event.{Event}
+use Rattle.peer_network.specs.declared.wake_set.WakeSet.{WakeSet}
+use Rattle.ghs_cli.specs.Fault.{status_of}
+use Rattle.ghs_cli.specs.Serving.{is_write}
+use Rattle.ghs_cli.specs.declared.fault.ServeFault.{ServeFault}
+use Rattle.ghs_cli.specs.declared.fault.ServeFault.TheVariants as serve
+use Rattle.ghs_cli.specs.declared.judging.BookCause.{BookCause}
+use Rattle.ghs_cli.specs.declared.judging.BookCause.TheVariants as cause
+
+-- a fault of a book's text, or of its reading, as a cause; memory is nobody's text's fault
+abbrev pub of_book : BookFault → BookCause
+of_book book.TooMany = cause.Text book.TooMany
+of_book (book.TooLong line) = cause.Text (book.TooLong line)
+of_book (book.BadLine line) = cause.Text (book.BadLine line)
+of_book (book.Number line) = cause.Text (book.Number line)
+of_book (book.Wavers first line) = cause.Text (book.Wavers first line)
+of_book book.Memory = cause.Reading serve.Memory
+
+abbrev pub of_text : TextFault → BookCause
+of_text text.Read = cause.Reading serve.Read
+of_text text.TooLong = cause.Reading serve.TooLong
+of_text text.Memory = cause.Reading serve.Memory
+
+abbrev pub book_status : BookCause → ℕ
+book_status (cause.Text fault) = 1
+book_status (cause.Reading fault) = status_of fault
+
+-- the text is that of a book with these entries
+pub record IsBookText (said : List ℕ) (entries : List Entry) : Type 0 where
+  pub short : IsTooLong said → ⊥
+  pub has : HasEntries said entries
+
+-- why a book isn't read; the reader and memory may fail for any
+abbrev pub IsReadCause : List ℕ → ServeFault → Type 0
+IsReadCause said serve.TooLong = IsTooLong said
+IsReadCause said serve.Memory = Unit {0}
+IsReadCause said serve.Read = Unit {0}
+IsReadCause said _ = ⊥
+
+abbrev pub IsBookCause : List ℕ → BookCause → Type 0
+IsBookCause said (cause.Text fault) = (IsTooLong said → ⊥) × HasFault said fault
+IsBookCause said (cause.Reading fault) = IsReadCause said fault
+
+-- the device failed
+abbrev pub IsReadFault : BookCause → Type 0
+IsReadFault (cause.Text fault) = ⊥
+IsReadFault (cause.Reading fault) = fault ≡ serve.Read
+
+abbrev pub IsUnread : {B : Type 0} → Result B BookCause → Type 0
+IsUnread (Ok b) = ⊥
+IsUnread (Err fault) = IsReadFault fault
+
+-- the writer failed
+abbrev pub IsUnwritten : {E : Type 0} → Result E ServeFault → Type 0
+IsUnwritten (Ok e) = ⊥
+IsUnwritten (Err fault) = is_write fault ≡ true
+
+-- the events are a run, and this is the text of its verdict
+pub record IsOfRun (wake : WakeSet) (g : Shape) (es : List Event) (entries : List Entry) (end : End) (output : List ℕ) : Type 0 where
+  pub run : IsRunUnder (may_wake g wake) (network_of g) es
+  pub judged : IsJudgement entries g es end output
+
+-- what has gone out: all of the text, or only its first bytes, where a write failed; nothing where the events are no run
+abbrev pub HasJudged : WakeSet → Shape → List Event → List Entry → Option (List ℕ) → Option (List ℕ) → Result End ServeFault → Type 0
+HasJudged wake g es entries old new (Ok end) = (output : List ℕ) × IsOfRun wake g es entries end output × HasWritten old new output (length output)
+HasJudged wake g es entries old new (Err (serve.Write written)) =
+    (output : List ℕ) × ((end : End) × IsOfRun wake g es entries end output) × (written < length output) × HasWritten old new output written
+HasJudged wake g es entries old new (Err (serve.NotLawful k)) = IsFirstUnlawful g wake es k × (new ≡ old)
+HasJudged wake g es entries old new (Err serve.Memory) = new ≡ old
+HasJudged wake g es entries old new (Err fault) = ⊥

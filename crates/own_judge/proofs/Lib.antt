@@ -1,0 +1,5 @@
+pub mod Carried
+pub mod Cases
+pub mod Going
+pub mod Meaning
+pub mod Same

@@ -1,0 +1,133 @@
+"""Fills books: asks a node's program what `ghs judge` finds open, until it finds nothing open.
+
+A node's program is any program that reads questions, one a line, and writes an answer for each, one a line. It is a function of
+the question and of the greeting and openings before it: nothing else may change an answer. docs/FORMATS.md, "Book text", has the
+lines; nodes/node.py is a library for programs in Python, which finds it wherever it stands.
+"""
+import os
+import queue
+import re
+import shlex
+import subprocess
+import threading
+
+NODES = os.path.join(os.path.dirname(os.path.realpath(__file__)), "nodes")
+# what `ghs judge` says of a line of the book; a book that is filled here has a line for each entry
+NO_ANSWER = re.compile(r"ghs: book: line (\d+): (?:not a question with an answer|more than)")
+LINE_BYTES = 1 << 20        # the bytes that a line of a book may have
+LINES = 1 << 20             # the lines that a book may have
+
+
+class Fault(Exception):
+    """What a node's program did wrong: a name, and the question and answer."""
+
+    def __init__(self, name, question, answer=None):
+        super().__init__(name)
+        self.name, self.question, self.answer = name, question, answer
+
+    def __str__(self):
+        told = "" if self.answer is None else f"\nanswer: {self.answer}"
+        return f"{WORDS[self.name]}\nquestion: {self.question}{told}"
+
+
+WORDS = {
+    "SILENT": "SILENT: the program ended without an answer",
+    "LATE": "LATE: no answer within the time allowed",
+    "GARBLED": "GARBLED: this is no answer to the question",
+    "WAVERS": "WAVERS: another answer to the same question",
+    "TOO_MANY": "TOO_MANY: more lines than a book may have",
+}
+
+
+class Node:
+    """A running program. Each answer has to come within so many seconds."""
+
+    def __init__(self, command, seconds):
+        self.seconds = seconds
+        pipes = {"stdin": subprocess.PIPE, "stdout": subprocess.PIPE}
+        self.program = subprocess.Popen(shlex.split(command), env={**os.environ, "PYTHONPATH": NODES}, **pipes)
+        self.lines = queue.Queue()
+        threading.Thread(target=self._read, daemon=True).start()
+
+    def _read(self):
+        while True:
+            line = self.program.stdout.readline(LINE_BYTES + 1)
+            self.lines.put(line)
+            if not line:
+                return
+
+    def answer(self, question):
+        try:
+            self.program.stdin.write(question.encode() + b"\n")
+            self.program.stdin.flush()
+        except OSError:
+            raise Fault("SILENT", question) from None
+        try:
+            line = self.lines.get(timeout=self.seconds)
+        except queue.Empty:
+            raise Fault("LATE", question) from None
+        if not line:
+            raise Fault("SILENT", question)
+        try:
+            text = line.decode("ascii")
+        except UnicodeDecodeError:
+            raise Fault("GARBLED", question, repr(line)) from None
+        if not text.endswith("\n"):
+            raise Fault("GARBLED", question, text[:80])
+        return text[:-1]
+
+    def close(self):
+        self.program.kill()
+        self.program.wait()
+        try:
+            self.program.stdin.close()
+        except OSError:
+            pass
+        self.program.stdout.close()
+
+
+class Book:
+    """A book in a file, and the program that fills it."""
+
+    def __init__(self, path, command, seconds, ghs):
+        self.path, self.ghs, self.entries = path, ghs, {}
+        with open(path, "a+", encoding="ascii") as file:
+            file.seek(0)
+            for line in file.read().splitlines():
+                question, _, answer = line.partition(" = ")
+                self.entries.setdefault(question, answer)
+        self.node = Node(command, seconds)
+        # what a program knows its nodes by comes first, whoever asked it before
+        for question in [it for it in self.entries if it.startswith(("own ", "open "))]:
+            self._ask(question)
+
+    def _ask(self, question):
+        answer = self.node.answer(question)
+        known = self.entries.setdefault(question, answer)
+        if known != answer:
+            raise Fault("WAVERS", question, answer)
+        return answer
+
+    def judge(self, trace, graph, wake):
+        """Asks what is open until nothing is; the status of `ghs judge`, and what it prints."""
+        while True:
+            command = [self.ghs, "judge", trace, graph, "--book", self.path, "--wake", wake]
+            ran = subprocess.run(command, capture_output=True, text=True, check=False)
+            garbled = NO_ANSWER.match(ran.stderr)
+            if garbled:
+                raise Fault("GARBLED", *list(self.entries.items())[int(garbled[1]) - 1])
+            if ran.returncode != 7:
+                return ran.returncode, ran.stdout, ran.stderr
+            with open(self.path, "a", encoding="ascii", errors="backslashreplace") as file:
+                for question in ran.stdout.splitlines():
+                    if len(self.entries) >= LINES:
+                        raise Fault("TOO_MANY", question)
+                    file.write(f"{question} = {self._ask(question)}\n")
+
+    def audit(self):
+        """Asks each question once more, the last first: a program that is a function gives its answers again."""
+        for question in reversed(list(self.entries)):
+            self._ask(question)
+
+    def close(self):
+        self.node.close()
