@@ -1,8 +1,7 @@
 //! How each protocol is swept. A further protocol has a line in each function by protocols here.
-ghost use Rattle.ghs_cli.specs.Swept.{AreFiguresBy, AreRunsBy, IsBoundBy, by_of, kind_columns, layout_by, schedule_by, setup_of};
-ghost use Rattle.peer_sweep.specs.Figures.{LeavesRoom};
+ghost use Rattle.ghs_cli.specs.Swept.{AreRunsBy, IsBoundBy, by_of, kind_columns, layout_by, schedule_by, setup_of};
 ghost use Rattle.peer_sweep.specs.Sweep.{HasTurns};
-ghost use Rattle.std.specs.Prelude.{◌≡◌, ◌+◌, ◌≤◌, ◌^◌, All, IfOk, OnErr, length};
+ghost use Rattle.std.specs.Prelude.{◌≡◌, ◌+◌, ◌≤◌, ◌^◌, IfOk, OnErr, length};
 
 use boruvka::protocol::Boruvka;
 use echo::protocol::Echo;

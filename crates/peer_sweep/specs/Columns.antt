@@ -1,5 +1,5 @@
 -- The columns of the lines of runs, one for each measure.
-use Rattle.std.specs.Prelude.{ℕ, zero, suc, List, [], ◌∷◌, ◌++◌, Bool, Option, Some, None, codes, map, if◌then◌else◌}
+use Rattle.std.specs.Prelude.{ℕ, zero, suc, List, [], ◌∷◌, ◌++◌, Option, Some, None, codes, map, if◌then◌else◌}
 use Rattle.std.specs.Str.{bytes_eq}
 use Rattle.peer_sweep.specs.declared.column.Column.{Column}
 use Rattle.peer_sweep.specs.declared.measure.Measure.{Measure}

@@ -1,5 +1,5 @@
 -- What is measured of each run of a sweep.
-use Rattle.std.specs.Prelude.{◌≡◌, ℕ, nat_lt, Bool, true, List, Option, Some, None, slice_index, if◌then◌else◌}
+use Rattle.std.specs.Prelude.{◌≡◌, ℕ, nat_lt, true, List, Option, Some, None, slice_index, if◌then◌else◌}
 use Rattle.ghs_graph.specs.Graph.{Shape}
 use Rattle.peer_sweep.specs.declared.figures.Figures.{Figures}
 use Rattle.peer_sweep.specs.declared.measure.Measure.{Measure}

@@ -1,8 +1,8 @@
 //! What the figures of many runs come to: a line for each measure.
 ghost use Rattle.peer_sweep.specs.Figures.{LeavesRoom};
-ghost use Rattle.peer_sweep.specs.Summary.{AreSummaryLines, IsMeasureLine, IsRising, fixed_value, high_members, listed, low_members, measure_fields, measure_line, measure_members, measure_name, measure_text, name_of, percentile, rising_fields, values_of};
+ghost use Rattle.peer_sweep.specs.Summary.{AreSummaryLines, IsMeasureLine, IsRising, high_members, listed, low_members, measure_fields, measure_line, measure_members, measure_text, name_of, percentile, rising_fields, values_of};
 ghost use Rattle.std.specs.List.{sum};
-ghost use Rattle.std.specs.Prelude.{◌≡◌, ◌++◌, ◌<◌, ◌≤◌, ◌^◌, All, IfOk, List, ℕ, length, map};
+ghost use Rattle.std.specs.Prelude.{◌≡◌, ◌++◌, ◌<◌, ◌≤◌, ◌^◌, All, IfOk, List, ℕ, length};
 
 use crate::column::Column;
 use crate::figures::Figures;

@@ -1,10 +1,9 @@
-use Rattle.std.proofs.Common.{◌≡◌, ◌≤◌, ◌<◌, ◌^◌, ◌*◌, ◌∙◌, ap, arith, refl, rules, slice_index}
+use Rattle.std.proofs.Common.{◌≡◌, ◌≤◌, ◌<◌, ◌^◌, ◌∙◌, ap, arith, refl, rules, slice_index}
 use Rattle.ghs_graph.specs.Graph.{Shape}
 use Rattle.peer_network.specs.Network.{network_of}
 use Rattle.peer_network.specs.Sums.{sum_below}
 use Rattle.peer_network.proofs.lemmas.Sums.{sum_same}
 use Rattle.peer_machine.specs.Ledger.{in_all}
-use Rattle.peer_machine.specs.Run.{IsRun, net_after}
 use Rattle.peer_lengths.specs.Chain.{longest_chain}
 use Rattle.peer_lengths.specs.Sends.{bits_sent, longest_sent}
 use Rattle.peer_sweep.proofs.Ruled.{few_bits}

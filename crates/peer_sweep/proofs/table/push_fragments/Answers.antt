@@ -1,4 +1,4 @@
-use Rattle.std.proofs.Common.{◌≡◌, ◌∙◌, ◌∷◌, ◌++◌, [], List, ap, append_assoc, codes, ℕ}
+use Rattle.std.proofs.Common.{◌∙◌, ◌∷◌, ◌++◌, [], List, ap, append_assoc, codes, ℕ}
 use Rattle.peer_sweep.specs.declared.column.Column.{Column}
 use Rattle.peer_sweep.specs.declared.measure.Measure.TheVariants.{Fragments, Level}
 use Rattle.peer_sweep.specs.Columns.{column, fragment_columns}
