@@ -3,7 +3,7 @@ _ghs() {
     local word=${COMP_WORDS[COMP_CWORD]} before=${COMP_WORDS[COMP_CWORD - 1]}
     COMPREPLY=()
     if [ "$COMP_CWORD" -eq 1 ]; then
-        COMPREPLY=($(compgen -W 'tree run replay steps sweep view make explore help -h --help -V --version' -- "$word"))
+        COMPREPLY=($(compgen -W 'tree run replay steps judge sweep view make explore help -h --help -V --version' -- "$word"))
         return
     fi
     case ${COMP_WORDS[1]},$before in
@@ -21,6 +21,8 @@ _ghs() {
         steps,--from) : && return ;;
         steps,--to) : && return ;;
         steps,--node) : && return ;;
+        judge,--book) : && return ;;
+        judge,--wake) COMPREPLY=($(compgen -W 'all first' -- "$word")) && return ;;
         sweep,--protocol) COMPREPLY=($(compgen -W 'ghs boruvka' -- "$word")) && return ;;
         sweep,--seeds) : && return ;;
         sweep,--schedule) COMPREPLY=($(compgen -W 'seeded patient rounds waits lifo round-robin' -- "$word")) && return ;;
@@ -46,13 +48,14 @@ _ghs() {
         explore,--limit) : && return ;;
         explore,--print) COMPREPLY=($(compgen -W 'report trace' -- "$word")) && return ;;
         explore,--end) : && return ;;
-        help,*) COMPREPLY=($(compgen -W 'tree run replay steps sweep view make explore help' -- "$word")) && return ;;
+        help,*) COMPREPLY=($(compgen -W 'tree run replay steps judge sweep view make explore help' -- "$word")) && return ;;
     esac
     case ${COMP_WORDS[1]} in
         tree) [[ $word == -* ]] && COMPREPLY=($(compgen -W '--core -h --help' -- "$word")) ;;
         run) [[ $word == -* ]] && COMPREPLY=($(compgen -W '--protocol --seed --schedule --workers --wake --turns --print --core --progress --tally -h --help' -- "$word")) ;;
         replay) [[ $word == -* ]] && COMPREPLY=($(compgen -W '--protocol --wake -h --help' -- "$word")) ;;
         steps) [[ $word == -* ]] && COMPREPLY=($(compgen -W '--protocol --wake --from --to --node --json -h --help' -- "$word")) ;;
+        judge) [[ $word == -* ]] && COMPREPLY=($(compgen -W '--book --wake -h --help' -- "$word")) ;;
         sweep) [[ $word == -* ]] && COMPREPLY=($(compgen -W '--protocol --seeds --schedule --workers --wake --turns --print --by --names --json --progress -h --help' -- "$word")) ;;
         view) [[ $word == -* ]] && COMPREPLY=($(compgen -W '--protocol --seed --seeds --schedule --wake --turns --trace --from --to -h --help' -- "$word")) ;;
         make) [[ $word == -* ]] && COMPREPLY=($(compgen -W '--seed --links --weights -h --help' -- "$word"))
