@@ -5,6 +5,7 @@ use own_judge::end::End;
 use own_judge::judge::judge_stored;
 use peer_network::event::Event;
 use peer_network::wake_set::WakeSet;
+use peer_schedule::fault::ReplayFault;
 use std::alloc::Global;
 use std::process::Abort;
 
@@ -95,4 +96,22 @@ fn an_answer_has_a_fault(rt: HostRuntime) {
         End::Fails,
         "event 3: node 2 takes connect(0) at port 0, from node 1\nGIVES_UP: the node has no rule for this\nquestion: take 2 0 connect(0) b=2\nanswer: ! no idea\nline of the book: 6\n",
     );
+}
+
+/// Where memory is refused, a run isn't judged, and else it is: nothing comes between.
+#[test]
+fn memory_is_refused_or_the_verdict_is_whole(rt: HostRuntime) {
+    let alloc = rt.alloc();
+    let (Some(graph), Ok(book)) = (graph_of(alloc, PAIR), read_book(alloc, BOOK.as_bytes())) else {
+        return;
+    };
+    match judge_stored(alloc, graph, WakeSet::All, &EVENTS, &book) {
+        Ok(judgement) => {
+            assert_eq!(rt;
+                judgement.text.as_slice(),
+                b"take 2 0 connect(0) b=2\n".as_slice()
+            );
+        }
+        Err(fault) => assert!(rt; fault == ReplayFault::Memory),
+    }
 }
