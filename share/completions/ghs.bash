@@ -7,23 +7,23 @@ _ghs() {
         return
     fi
     case ${COMP_WORDS[1]},$before in
-        run,--protocol) COMPREPLY=($(compgen -W 'ghs boruvka' -- "$word")) && return ;;
+        run,--protocol) COMPREPLY=($(compgen -W 'ghs boruvka echo' -- "$word")) && return ;;
         run,--seed) : && return ;;
         run,--schedule) COMPREPLY=($(compgen -W 'seeded patient rounds waits lifo round-robin' -- "$word")) && return ;;
         run,--workers) : && return ;;
         run,--wake) COMPREPLY=($(compgen -W 'all first' -- "$word")) && return ;;
         run,--turns) : && return ;;
         run,--print) COMPREPLY=($(compgen -W 'report trace time' -- "$word")) && return ;;
-        replay,--protocol) COMPREPLY=($(compgen -W 'ghs boruvka' -- "$word")) && return ;;
+        replay,--protocol) COMPREPLY=($(compgen -W 'ghs boruvka echo' -- "$word")) && return ;;
         replay,--wake) COMPREPLY=($(compgen -W 'all first' -- "$word")) && return ;;
-        steps,--protocol) COMPREPLY=($(compgen -W 'ghs boruvka' -- "$word")) && return ;;
+        steps,--protocol) COMPREPLY=($(compgen -W 'ghs boruvka echo' -- "$word")) && return ;;
         steps,--wake) COMPREPLY=($(compgen -W 'all first' -- "$word")) && return ;;
         steps,--from) : && return ;;
         steps,--to) : && return ;;
         steps,--node) : && return ;;
         judge,--book) : && return ;;
         judge,--wake) COMPREPLY=($(compgen -W 'all first' -- "$word")) && return ;;
-        sweep,--protocol) COMPREPLY=($(compgen -W 'ghs boruvka' -- "$word")) && return ;;
+        sweep,--protocol) COMPREPLY=($(compgen -W 'ghs boruvka echo' -- "$word")) && return ;;
         sweep,--seeds) : && return ;;
         sweep,--schedule) COMPREPLY=($(compgen -W 'seeded patient rounds waits lifo round-robin' -- "$word")) && return ;;
         sweep,--workers) : && return ;;
@@ -31,7 +31,7 @@ _ghs() {
         sweep,--turns) : && return ;;
         sweep,--print) COMPREPLY=($(compgen -W 'runs summary chart' -- "$word")) && return ;;
         sweep,--by) COMPREPLY=($(compgen -W 'node level rule' -- "$word")) && return ;;
-        view,--protocol) COMPREPLY=($(compgen -W 'ghs boruvka' -- "$word")) && return ;;
+        view,--protocol) COMPREPLY=($(compgen -W 'ghs boruvka echo' -- "$word")) && return ;;
         view,--seed) : && return ;;
         view,--seeds) : && return ;;
         view,--schedule) COMPREPLY=($(compgen -W 'seeded patient rounds waits lifo round-robin' -- "$word")) && return ;;
@@ -43,7 +43,7 @@ _ghs() {
         make,--seed) : && return ;;
         make,--links) : && return ;;
         make,--weights) COMPREPLY=($(compgen -W 'random rising falling equal' -- "$word")) && return ;;
-        explore,--protocol) COMPREPLY=($(compgen -W 'ghs boruvka' -- "$word")) && return ;;
+        explore,--protocol) COMPREPLY=($(compgen -W 'ghs boruvka echo' -- "$word")) && return ;;
         explore,--wake) COMPREPLY=($(compgen -W 'all first' -- "$word")) && return ;;
         explore,--limit) : && return ;;
         explore,--print) COMPREPLY=($(compgen -W 'report trace' -- "$word")) && return ;;
