@@ -46,7 +46,8 @@ class Node:
         self.seconds = seconds
         pipes = {"stdin": subprocess.PIPE, "stdout": subprocess.PIPE}
         self.program = subprocess.Popen(shlex.split(command), env={**os.environ, "PYTHONPATH": NODES}, **pipes)
-        self.lines = queue.Queue()
+        # a program that babbles isn't read far ahead
+        self.lines = queue.Queue(16)
         threading.Thread(target=self._read, daemon=True).start()
 
     def _read(self):
