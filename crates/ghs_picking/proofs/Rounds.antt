@@ -12,7 +12,7 @@ use Rattle.ghs_graph.proofs.lemmas.Ports.{length-ports_of}
 use Rattle.peer_network.specs.Wakes.{AllMayWake, may_wake}
 use Rattle.peer_network.specs.declared.event.Event.{Event}
 use Rattle.peer_network.specs.declared.wake_set.WakeSet.{WakeSet}
-use Rattle.peer_network.specs.declared.wake_set.WakeSet.TheVariants.{All, First}
+use Rattle.peer_network.specs.declared.wake_set.WakeSet.TheVariants.{All, First, Listed}
 use Rattle.ghs_protocol.specs.Marks.{HasEnded}
 use Rattle.ghs_protocol.specs.Run.{net_after}
 use Rattle.peer_chains.specs.Chains.{most_below}
@@ -66,28 +66,29 @@ module _ (picks : PicksAreByRounds) (awake : AwakeRoundsAreFew) (fewer : RoundsA
       let run = picks may g turns words es r after ok picked in
       awake may g es r run.0 ok each k log2 (most_ports g - 1) (has_ports g) run.1 ended
 
-  first_within : AllMayWake (may_wake g First) g → IsPickedByRounds (may_wake g First) g turns words es r after → (k : ℕ) → IsFloorLog2 g.nodes k →
+  -- where one of each component may wake
+  some_within : (may : ℕ → Bool) → AllMayWake may g → IsPickedByRounds may g turns words es r after → (k : ℕ) → IsFloorLog2 g.nodes k →
       r ≤ 2 * length g.keys + 5 * (g.nodes * k) - 2 * g.nodes
-  first_within woken picked k log2 = ⊎_elim
+  some_within may woken picked k log2 = ⊎_elim
       (λ lone.
       let some = ok.some in
       let single : g.nodes ≡ 1 = omega (arith, lone, some) in
-      let each : (v : ℕ) → 1 ≤ v → v ≤ g.nodes → may_wake g First v ≡ true = λ v low high.
+      let each : (v : ℕ) → 1 ≤ v → v ≤ g.nodes → may v ≡ true = λ v low high.
       let u = woken v low high in
       let lo = u.1 in
       let hi = u.2 in
       let same : u.0 ≡ v = omega (arith, lo, hi, low, high, single) in
-      subst (λ x. may_wake g First x ≡ true) same u.4 in
+      subst (λ x. may x ≡ true) same u.4 in
       let none : k ≡ 0 = no_level k (subst (λ n. IsFloorLog2 n k) single log2) in
-      let few : r ≤ 3 * (g.nodes * k) + 2 * ((most_ports g - 1) * k) = all_within (may_wake g First) each picked k log2 in
+      let few : r ≤ 3 * (g.nodes * k) + 2 * ((most_ports g - 1) * k) = all_within may each picked k log2 in
       let zero_few : r ≤ 3 * (g.nodes * 0) + 2 * ((most_ports g - 1) * 0) = rw none at few in
       omega (arith, zero_few))
       (λ more.
       let two : 2 ≤ g.nodes = omega (arith, more) in
       let b = 2 * length g.keys + 5 * (g.nodes * k) in
       let is : IsBound g.nodes (length g.keys) b = record { levels = k; log2 = log2; bound = refl } in
-      let run = picks (may_wake g First) g turns words es r after ok picked in
-      let few = fewer (may_wake g First) g es r run.0 ok two b is run.1 ended in
+      let run = picks may g turns words es r after ok picked in
+      let few = fewer may g es r run.0 ok two b is run.1 ended in
       omega (arith, few))
       (cases_lt g.nodes 2)
 
@@ -98,6 +99,10 @@ module _ (picks : PicksAreByRounds) (awake : AwakeRoundsAreFew) (fewer : RoundsA
       let same = is.2 in
       omega (arith, few, same)
   rounds_within First woken picked b is =
-      let few = first_within woken picked is.0 is.1 in
+      let few = some_within (may_wake g First) woken picked is.0 is.1 in
+      let same = is.2 in
+      omega (arith, few, same)
+  rounds_within (Listed wakers) woken picked b is =
+      let few = some_within (may_wake g (Listed wakers)) woken picked is.0 is.1 in
       let same = is.2 in
       omega (arith, few, same)

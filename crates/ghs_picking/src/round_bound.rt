@@ -24,7 +24,9 @@ pub fn round_bound(graph: &Graph, wake: WakeSet) -> u64
             let levels = u64::from(floor_log2(nodes));
             3 * (u64::from(nodes) * levels) + 2 * (most_ports(graph).saturating_sub(1) * levels)
         }
-        WakeSet::First => bound(nodes, graph.links()).saturating_sub(2 * u64::from(nodes)),
+        WakeSet::First | WakeSet::Listed(_) => {
+            bound(nodes, graph.links()).saturating_sub(2 * u64::from(nodes))
+        }
     }
 }
 

@@ -1,7 +1,8 @@
 //! A run's figures as a line of JSON.
 ghost use Rattle.peer_sweep.specs.JsonLine.{column_member, head_members, json_text, measure_member, number_member, numbered, worded};
 ghost use Rattle.std.specs.List.{flat_map};
-ghost use Rattle.std.specs.Prelude.{◌≡◌, ◌++◌, IfOk};
+ghost use Rattle.ghs_report.specs.Fields.{wake_word};
+ghost use Rattle.std.specs.Prelude.{◌≡◌, ◌++◌, IfOk, codes};
 
 use crate::column::Column;
 use crate::figures::Figures;
@@ -9,8 +10,9 @@ use crate::line::schedule_word;
 use crate::measure::Measure;
 use crate::setup::Setup;
 use crate::table::Table;
-use ghs_report::fields::{end_word, wake_word};
-use peer_words::json::{put_number_member, put_word_member};
+use ghs_report::fields::{end_word, put_wake};
+use peer_network::wake_set::WakeSet;
+use peer_words::json::{put_name, put_number_member, put_word_member};
 use std::alloc::AllocError;
 
 /// Puts the members of a seed's run, which are named as the columns, behind a text that has opened an object, and closes it.
@@ -40,7 +42,18 @@ fn put_start(text: &mut Vec<u8>, protocol: &[u8], seed: u64, setup: Setup) -> Re
     put_number_member(text, b"", b"seed", u128::from(seed))?;
     put_worded(text, b"protocol", protocol)?;
     put_worded(text, b"schedule", schedule_word(setup.schedule_kind))?;
-    put_worded(text, b"wake", wake_word(setup.wake))
+    put_woken(text, setup.wake)
+}
+
+/// The wake set.
+#[tactic(auto, unfolding(crate::specs::JsonLine::worded, peer_words::specs::Json::member, peer_words::specs::Json::quoted))]
+fn put_woken(text: &mut Vec<u8>, wake: WakeSet) -> Result<(), AllocError>
+    ensures { IfOk result (λ _. text.new.items ≡ text.old.items ++ worded (codes "wake") (wake_word wake)) }
+{
+    put_name(text, b",", b"wake")?;
+    text.extend_from_slice(b"\"")?;
+    put_wake(text, wake)?;
+    text.extend_from_slice(b"\"")
 }
 
 /// A member for each column of whose measure the run has a value.

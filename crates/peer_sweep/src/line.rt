@@ -10,7 +10,7 @@ use crate::setup::Setup;
 use crate::table::Table;
 use ghs_choices::schedule_kind::ScheduleKind;
 use ghs_lines::numbers::put_number;
-use ghs_report::fields::{end_word, put_field, put_word, wake_word};
+use ghs_report::fields::{end_word, put_field, put_wake_field, put_word};
 use std::alloc::AllocError;
 
 /// The names of the fields before the columns.
@@ -74,7 +74,7 @@ fn put_start(text: &mut Vec<u8>, protocol: &[u8], seed: u64, setup: Setup) -> Re
     put_number(text, u128::from(seed))?;
     put_word(text, protocol)?;
     put_word(text, schedule_word(setup.schedule_kind))?;
-    put_word(text, wake_word(setup.wake))
+    put_wake_field(text, setup.wake)
 }
 
 /// A field for each column.
