@@ -5,4 +5,5 @@ pub mod Networks
 pub mod Parts
 pub mod Protocols
 pub mod TwoSeeds
+pub mod Wakers
 pub mod Values

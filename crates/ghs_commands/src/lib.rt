@@ -17,3 +17,4 @@ pub mod parts;
 mod protocols;
 pub mod two_seeds;
 pub mod values;
+mod wakers;

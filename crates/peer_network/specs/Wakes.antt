@@ -1,6 +1,6 @@
 -- Which nodes may wake by themselves.
-use Rattle.std.specs.Prelude.{◌≡◌, ◌≤◌, ◌↔◌, ◌+◌, ℕ, Bool, true, not, ◌&&◌, ◌||◌, ◌==◌, nat_lt, List}
-use Rattle.std.specs.List.{list_any}
+use Rattle.std.specs.Prelude.{◌≡◌, ◌≤◌, ◌↔◌, ◌+◌, ℕ, Bool, true, not, ◌&&◌, ◌||◌, ◌==◌, nat_lt, List, Option, None}
+use Rattle.std.specs.List.{find, list_any}
 use Rattle.ghs_graph.specs.Graph.{Shape}
 use Rattle.ghs_graph.specs.Components.{IsRoot}
 use Rattle.ghs_graph.specs.Computing.{is_root}
@@ -29,6 +29,12 @@ abbrev pub may_wake : Shape → WakeSet → ℕ → Bool
 may_wake g All v = true
 may_wake g First v = is_first g v
 may_wake g (Listed wakers) v = is_woken g wakers.nodes v
+
+-- the first node that is listed and that a graph of n nodes doesn't have
+abbrev pub missing : WakeSet → ℕ → Option ℕ
+missing (Listed wakers) n = find (λ w. nat_lt n w) wakers.nodes
+missing All n = None
+missing First n = None
 
 abbrev pub FirstAreRoots : Type 0
 FirstAreRoots = (g : Shape) (v : ℕ) → ((may_wake g First v ≡ true) ↔ IsRoot g.keys v v)

@@ -1,7 +1,7 @@
 //! Which nodes may wake by themselves.
-ghost use Rattle.std.specs.Prelude.{◌≡◌, ◌≤◌, length};
-ghost use Rattle.std.specs.List.{list_any};
-ghost use Rattle.peer_network.specs.Wakes.{is_in, is_under, is_woken, may_wake};
+ghost use Rattle.std.specs.Prelude.{◌≡◌, ◌≤◌, nat_lt};
+ghost use Rattle.std.specs.List.{find, list_any};
+ghost use Rattle.peer_network.specs.Wakes.{is_in, is_under, is_woken, may_wake, missing};
 
 use ghs_graph::graph::Graph;
 
@@ -35,6 +35,18 @@ impl Wakers {
         }
         false
     }
+}
+
+/// The first number above the most.
+fn first_above(numbers: &[u32], most: u32) -> Option<u32>
+    ensures { result ≡ find (λ n. nat_lt most n) numbers.now }
+{
+    for number in numbers {
+        if most < *number {
+            return Some(*number);
+        }
+    }
+    None
 }
 
 /// Whether a number is that of a node in the component of a root.
@@ -71,6 +83,16 @@ impl WakeSet {
             WakeSet::All => true,
             WakeSet::First => graph.root(v) == v,
             WakeSet::Listed(wakers) => wakers.wake(graph, v),
+        }
+    }
+
+    /// The first node that is listed and that a graph of so many nodes doesn't have.
+    pub fn missing(self, nodes: u32) -> Option<u32>
+        ensures { result ≡ missing self nodes }
+    {
+        match self {
+            WakeSet::All | WakeSet::First => None,
+            WakeSet::Listed(wakers) => first_above(&wakers.nodes, nodes),
         }
     }
 }
