@@ -137,7 +137,7 @@ fn sweep<R: Runtime + AllocGlobal + Threads + Sync>(
 {
     let mut networks = Vec::new(alloc);
     for name in names {
-        match network_of(rt, alloc, name.as_str()) {
+        match network_of(rt, alloc, name.as_str(), options.wake) {
             Ok(network) => match networks.push(network) {
                 Ok(()) => {}
                 Err(_) => return tell(rt, &ServeFault::Memory),
@@ -157,14 +157,15 @@ fn network_of<R: Runtime + AllocGlobal>(
     rt: &R,
     alloc: Global,
     name: &str,
+    wake: WakeSet,
 ) -> Result<Network, ServeFault>
     ensures { IfOk result (λ network. string_bytes network.name ≡ name.now) }
 {
     if is_dash(name) {
-        return read_network(alloc, name, &mut Device::of(rt.reader()));
+        return read_network(alloc, name, wake, &mut Device::of(rt.reader()));
     }
     match File::open(rt, name) {
-        Ok(file) => read_network(alloc, name, &mut Device::of(file)),
+        Ok(file) => read_network(alloc, name, wake, &mut Device::of(file)),
         Err(_) => Err(ServeFault::Read),
     }
 }
@@ -210,7 +211,7 @@ fn judged<R: Runtime + AllocGlobal>(
     book: &Book,
 ) -> Result<End, ServeFault> {
     let events = stored_of(rt, alloc, job.trace.as_ref())?;
-    let graph = built_of(rt, alloc, job.graph.as_ref())?;
+    let graph = built_of(rt, alloc, wake, job.graph.as_ref())?;
     let mut out = Device::of(io::writer(rt));
     judge_run(alloc, wake, graph, &events, book, &mut out)
 }
@@ -236,14 +237,15 @@ fn stored_of<R: Runtime + AllocGlobal>(
 fn built_of<R: Runtime + AllocGlobal>(
     rt: &R,
     alloc: Global,
+    wake: WakeSet,
     path: Option<&String>,
 ) -> Result<Graph, ServeFault> {
     match path {
         Some(path) if !is_dash(path) => match File::open(rt, path.as_str()) {
-            Ok(file) => graph_of(alloc, &mut Device::of(file)),
+            Ok(file) => graph_of(alloc, wake, &mut Device::of(file)),
             Err(_) => Err(ServeFault::Read),
         },
-        _ => graph_of(alloc, &mut Device::of(rt.reader())),
+        _ => graph_of(alloc, wake, &mut Device::of(rt.reader())),
     }
 }
 

@@ -23,7 +23,7 @@ use Rattle.ghs_commands.specs.declared.job.Task.{Task}
 use Rattle.ghs_commands.specs.declared.job.Task.TheVariants as task
 use Rattle.ghs_cli.specs.AnyRun.{HasTurnsFor, StopsRun}
 use Rattle.ghs_cli.specs.Running.{HasTurnsBy}
-use Rattle.ghs_cli.specs.Serving.{IsBoundedTask, IsGraphCause, IsOfText, IsTextCause, shape_of}
+use Rattle.ghs_cli.specs.Serving.{IsBoundedTask, IsGraphCause, IsOfText, IsRead, IsTextCause, shape_of}
 use Rattle.ghs_cli.specs.Verbs.{NeverStops, ghs_verbs, verbs_of}
 
 -- a run by a bounded schedule, with turns for its events, has ended
@@ -54,14 +54,14 @@ limit_stops Ghs o g output out = (out.events, out.stopped)
 limit_stops Boruvka o g output out = (out.events, out.stopped)
 limit_stops Echo o g output out = (out.events, out.stopped)
 
-pub limit_cause : (p : Protocol) (o : RunOptions) (input output : List ℕ) → IsOfText (λ g. (verbs_of p).runs o g true) input output →
-    IsTextCause ((verbs_of p).stops o) input serve.TurnLimit
+pub limit_cause : (p : Protocol) (o : RunOptions) (input output : List ℕ) → IsOfText o.wake (λ g. (verbs_of p).runs o g true) input output →
+    IsTextCause o.wake ((verbs_of p).stops o) input serve.TurnLimit
 limit_cause p o input output out = inr (out.0, out.1, limit_stops p o (shape_of out.0) output out.2)
 
 -- what goes out of a run may have gone out in part, be it whole or stopped
 pub either_way : (p : Protocol) (o : RunOptions) (at_limit : Bool) (input output : List ℕ) →
-    IsOfText (λ g. (verbs_of p).runs o g at_limit) input output →
-    IsOfText (λ g. (verbs_of p).runs o g false) input output ⊎ IsOfText (λ g. (verbs_of p).runs o g true) input output
+    IsOfText o.wake (λ g. (verbs_of p).runs o g at_limit) input output →
+    IsOfText o.wake (λ g. (verbs_of p).runs o g false) input output ⊎ IsOfText o.wake (λ g. (verbs_of p).runs o g true) input output
 either_way p o false input output out = inl out
 either_way p o true input output out = inr out
 
@@ -71,12 +71,12 @@ same_graph input one two is first second = let both : Ok one ≡ Ok two = is.one
 
 -- and a run of the one graph whose text the input is hasn't turns for its events
 pub goes_on : (p : Protocol) (o : RunOptions) → NeverStops (verbs_of p) → (input : List ℕ) → IsOneThing input →
-    IsTextCause ((verbs_of p).stops o) input serve.TurnLimit → IsBoundedTask (task.Run p o) input → ⊥
+    IsTextCause o.wake ((verbs_of p).stops o) input serve.TurnLimit → IsBoundedTask (task.Run p o) input → ⊥
 goes_on p o never input one cause is =
-    ⊎_elim (λ (bad : IsGraphCause input serve.TurnLimit). bad)
-    (λ (stops : (graph : RawShape) × TextIs input (Ok graph) × (verbs_of p).stops o (shape_of graph) serve.TurnLimit).
+    ⊎_elim (λ (bad : IsGraphCause o.wake input serve.TurnLimit). bad)
+    (λ (stops : (graph : RawShape) × IsRead o.wake input graph × (verbs_of p).stops o (shape_of graph) serve.TurnLimit).
     never o (shape_of stops.0) stops.2
-    (subst (λ (g : RawShape). (verbs_of p).is_bounded o (shape_of g)) (same_graph input is.0 stops.0 one is.1 stops.1) is.2))
+    (subst (λ (g : RawShape). (verbs_of p).is_bounded o (shape_of g)) (same_graph input is.0 stops.0 one is.1 stops.1.text) is.2))
     cause
 
 -- so a result by such a cause is no turn limit of a bounded run,

@@ -7,6 +7,7 @@ use Rattle.ghs_graph.specs.Graph.{Shape}
 use Rattle.ghs_graph.specs.Key.{key_of}
 use Rattle.ghs_report.specs.Writing.{HasWritten}
 use Rattle.peer_network.specs.declared.event.Event.{Event}
+use Rattle.peer_network.specs.declared.wake_set.WakeSet.{WakeSet}
 use Rattle.peer_trace.specs.declared.protocol.Protocol.{Protocol}
 use Rattle.ghs_cli.specs.declared.fault.ServeFault.{ServeFault}
 use Rattle.ghs_cli.specs.declared.fault.ServeFault.TheVariants as serve
@@ -39,11 +40,11 @@ serves_cause job stored input old new (serve.Write written) early cause = cc
 serves_cause job stored input old new fault early cause = cause
 
 -- what is told of a graph and of events is told of their texts,
-pub told_of : (p : Protocol) (Tells : Shape → List Event → List ℕ → Type 0) (stored input output : List ℕ) (g : Shape) (events : List Event) →
+pub told_of : (p : Protocol) {wake : WakeSet} (Tells : Shape → List Event → List ℕ → Type 0) (stored input output : List ℕ) (g : Shape) (events : List Event) →
     IsTraceText p stored events →
-    IsTextOf input g →
+    IsTextOf wake input g →
     Tells g events output →
-    IsOfBoth p Tells stored input output
+    IsOfBoth p wake Tells stored input output
 told_of p Tells stored input output g events trace (raw, text, same) told = record {
   graph = raw;
   text = text;
@@ -53,12 +54,12 @@ told_of p Tells stored input output g events trace (raw, text, same) told = reco
 }
 
 -- and a fault of both is one of their texts
-pub fault_of : (p : Protocol) (Fails : Shape → List Event → ServeFault → Type 0) (stored input : List ℕ) (g : Shape) (events : List Event)
+pub fault_of : (p : Protocol) {wake : WakeSet} (Fails : Shape → List Event → ServeFault → Type 0) (stored input : List ℕ) (g : Shape) (events : List Event)
     (fault : ServeFault) →
     IsTraceText p stored events →
-    IsTextOf input g →
+    IsTextOf wake input g →
     Fails g events fault →
-    IsBothCause p Fails stored input fault
+    IsBothCause p wake Fails stored input fault
 fault_of p Fails stored input g events fault trace (raw, text, same) cause = inr (inr (record {
   events = events;
   trace = trace;
@@ -68,38 +69,38 @@ fault_of p Fails stored input g events fault trace (raw, text, same) cause = inr
 }))
 
 -- what follows for each trace and graph follows where both are known
-pub if_both : (p : Protocol) (stored input : Option (List ℕ)) (g : Shape) (events : List Event) (P : List ℕ → List ℕ → Type 0) →
-    ((s i : List ℕ) → IsTraceText p s events → IsTextOf i g → P s i) →
+pub if_both : (p : Protocol) {wake : WakeSet} (stored input : Option (List ℕ)) (g : Shape) (events : List Event) (P : List ℕ → List ℕ → Type 0) →
+    ((s i : List ℕ) → IsTraceText p s events → IsTextOf wake i g → P s i) →
     IfSome stored (λ s. IsTraceText p s events) →
-    IfSome input (λ i. IsTextOf i g) →
+    IfSome input (λ i. IsTextOf wake i g) →
     IfSome stored (λ s. IfSome input (λ i. P s i))
 if_both p None input g events P all trace text = tt
 if_both p (Some s) None g events P all trace text = tt
 if_both p (Some s) (Some i) g events P all trace text = all s i trace text
 
 -- so what a result tells of both it tells of their texts,
-pub output_of_both : {A : Type 0} (r : Result A ServeFault) (out : A → List ℕ) (p : Protocol) (Tells : Shape → List Event → List ℕ → Type 0)
+pub output_of_both : {A : Type 0} {wake : WakeSet} (r : Result A ServeFault) (out : A → List ℕ) (p : Protocol) (Tells : Shape → List Event → List ℕ → Type 0)
     (g : Shape) (events : List Event) (stored input : Option (List ℕ)) →
     IfOk r (λ x. Tells g events (out x)) →
     IfSome stored (λ s. IsTraceText p s events) →
-    IfSome input (λ i. IsTextOf i g) →
-    IfOk r (λ x. IfSome stored (λ s. IfSome input (λ i. IsOfBoth p Tells s i (out x))))
-output_of_both (Err fault) out p Tells g events stored input told trace text = tt
-output_of_both (Ok x) out p Tells g events stored input told trace text =
-    if_both p stored input g events (λ s i. IsOfBoth p Tells s i (out x))
+    IfSome input (λ i. IsTextOf wake i g) →
+    IfOk r (λ x. IfSome stored (λ s. IfSome input (λ i. IsOfBoth p wake Tells s i (out x))))
+output_of_both {wake = wake} (Err fault) out p Tells g events stored input told trace text = tt
+output_of_both {wake = wake} (Ok x) out p Tells g events stored input told trace text =
+    if_both p stored input g events (λ s i. IsOfBoth p wake Tells s i (out x))
     (λ s i trace_s text_i. told_of p Tells s i (out x) g events trace_s text_i told)
     trace text
 
 -- and so does its fault
-pub cause_of_both : {A : Type 0} (r : Result A ServeFault) (p : Protocol) (Fails : Shape → List Event → ServeFault → Type 0) (g : Shape)
+pub cause_of_both : {A : Type 0} {wake : WakeSet} (r : Result A ServeFault) (p : Protocol) (Fails : Shape → List Event → ServeFault → Type 0) (g : Shape)
     (events : List Event) (stored input : Option (List ℕ)) →
     IfErr r (Fails g events) →
     IfSome stored (λ s. IsTraceText p s events) →
-    IfSome input (λ i. IsTextOf i g) →
-    IfErr r (λ fault. IfSome stored (λ s. IfSome input (λ i. IsBothCause p Fails s i fault)))
-cause_of_both (Ok x) p Fails g events stored input cause trace text = tt
-cause_of_both (Err fault) p Fails g events stored input cause trace text =
-    if_both p stored input g events (λ s i. IsBothCause p Fails s i fault)
+    IfSome input (λ i. IsTextOf wake i g) →
+    IfErr r (λ fault. IfSome stored (λ s. IfSome input (λ i. IsBothCause p wake Fails s i fault)))
+cause_of_both {wake = wake} (Ok x) p Fails g events stored input cause trace text = tt
+cause_of_both {wake = wake} (Err fault) p Fails g events stored input cause trace text =
+    if_both p stored input g events (λ s i. IsBothCause p wake Fails s i fault)
     (λ s i trace_s text_i. fault_of p Fails s i g events fault trace_s text_i cause)
     trace text
 

@@ -97,7 +97,7 @@ module _ {S M : Type 0} (r : Rules S M) (words : Words S M) where
 
 -- what is told of events serves the steps of their texts
 module _ (p : Protocol) (o : StepsOptions) (stored input : List ℕ) (g : Shape) (events : List Event) (trace : IsTraceText p stored events)
-    (text : IsTextOf input g) where
+    (text : IsTextOf o.wake input g) where
   -- what is told of them,
   told_so : (output : List ℕ) → (verbs_of p).tells o g events output → (meaning_of (task.Steps p o)).prints stored input output
   told_so output told = told_of p ((verbs_of p).tells o) stored input output g events trace text told
@@ -122,7 +122,7 @@ module _ (p : Protocol) (o : StepsOptions) (stored input : List ℕ) (g : Shape)
 pub serves_told : (p : Protocol) (o : StepsOptions) (stored input : Option (List ℕ)) (g : Shape) (events : List Event)
     (old new : Option (List ℕ)) (r : Result (Unit {0}) ServeFault) →
     IfSome stored (λ s. IsTraceText p s events) →
-    IfSome input (λ i. IsTextOf i g) →
+    IfSome input (λ i. IsTextOf o.wake i g) →
     HasTold ((verbs_of p).tells o g events) ((verbs_of p).is_unlawful o.wake g events) old new r →
     IfSome stored (λ s. IfSome input (λ i. Serves (task.Steps p o) s i old new r))
 serves_told p o stored input g events old new r trace text has =

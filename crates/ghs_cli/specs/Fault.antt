@@ -81,6 +81,7 @@ status_of (serve.SecondProblem line) = 1
 status_of (serve.Number line) = 1
 status_of (serve.NodeRange line) = 1
 status_of serve.NoProblem = 1
+status_of (serve.NoNode node) = 1
 status_of (serve.ArcCount said found) = 1
 status_of serve.TooLong = 1
 status_of (serve.TraceBadLine line) = 1

@@ -1,5 +1,5 @@
 -- What the program's work comes to.
-use Rattle.std.specs.Prelude.{◌≡◌, ◌⊎◌, ℕ, ◌<◌, ◌≤◌, Bool, true, false, ◌&&◌, ◌||◌, List, length, map, Option, Result, Ok, Err, IfSome}
+use Rattle.std.specs.Prelude.{◌≡◌, ◌⊎◌, ℕ, ◌<◌, ◌≤◌, Bool, true, false, ◌&&◌, ◌||◌, List, length, map, Option, Some, None, Result, Ok, Err, IfSome}
 use Rattle.ghs_gr.specs.RawGraph.{RawShape}
 use Rattle.ghs_gr.specs.Judgement.{TextIs}
 use Rattle.ghs_gr.specs.Text.{IsTooLong}
@@ -16,7 +16,10 @@ use Rattle.ghs_make.specs.declared.network.Network.{Network}
 use Rattle.ghs_make.specs.declared.plan.Asked.{Asked}
 use Rattle.ghs_report.specs.TreeText.{tree_text}
 use Rattle.ghs_report.specs.Writing.{HasWritten}
+use Rattle.peer_network.specs.Wakes.{missing}
 use Rattle.peer_network.specs.declared.event.Event.{Event}
+use Rattle.peer_network.specs.declared.wake_set.WakeSet.{WakeSet}
+use Rattle.peer_network.specs.declared.wake_set.WakeSet.TheVariants.{All}
 use Rattle.peer_texts.specs.declared.fault.TraceFault.TheVariants as trace
 use Rattle.peer_trace.specs.Reading.{HasEventsOf, HasFaultOf}
 use Rattle.peer_trace.specs.declared.fault.StoredFault.TheVariants.{Other, Trace}
@@ -39,9 +42,14 @@ keys_of g = map key_of g.keys
 abbrev pub shape_of : RawShape → Shape
 shape_of g = record { nodes = g.nodes; keys = keys_of g }
 
--- the input is the text of this graph
-abbrev pub IsTextOf : List ℕ → Shape → Type 0
-IsTextOf input g = (graph : RawShape) × TextIs input (Ok graph) × (g ≡ shape_of graph)
+-- the input is the text of this graph, which has each node that the wake set lists
+pub record IsRead (wake : WakeSet) (input : List ℕ) (graph : RawShape) : Type 0 where
+  pub text : TextIs input (Ok graph)
+  pub has : missing wake graph.nodes ≡ None
+
+-- this is the graph that is built of it
+abbrev pub IsTextOf : WakeSet → List ℕ → Shape → Type 0
+IsTextOf wake input g = (graph : RawShape) × IsRead wake input graph × (g ≡ shape_of graph)
 
 -- what is stored is the text of these events, of a run of the protocol
 abbrev pub IsTraceText : Protocol → List ℕ → List Event → Type 0
@@ -58,49 +66,50 @@ IsTraceCause p stored serve.Memory = Unit {0}
 IsTraceCause p stored serve.Read = Unit {0}
 IsTraceCause p stored _ = ⊥
 
--- the input gives this fault; the reader and memory may fail for any
-abbrev pub IsGraphCause : List ℕ → ServeFault → Type 0
-IsGraphCause input (serve.BadLine line) = TextIs input (Err (gr.BadLine line))
-IsGraphCause input (serve.ArcBeforeProblem line) = TextIs input (Err (gr.ArcBeforeProblem line))
-IsGraphCause input (serve.SecondProblem line) = TextIs input (Err (gr.SecondProblem line))
-IsGraphCause input (serve.Number line) = TextIs input (Err (gr.Number line))
-IsGraphCause input (serve.NodeRange line) = TextIs input (Err (gr.NodeRange line))
-IsGraphCause input serve.NoProblem = TextIs input (Err gr.NoProblem)
-IsGraphCause input (serve.ArcCount said found) = TextIs input (Err (gr.ArcCount said found))
-IsGraphCause input serve.TooLong = TextIs input (Err gr.TooLong)
-IsGraphCause input serve.Memory = Unit {0}
-IsGraphCause input serve.Read = Unit {0}
-IsGraphCause input _ = ⊥
+-- the input gives this fault, or is the text of a graph that lacks a node which the wake set lists; the reader and memory may fail for any
+abbrev pub IsGraphCause : WakeSet → List ℕ → ServeFault → Type 0
+IsGraphCause wake input (serve.BadLine line) = TextIs input (Err (gr.BadLine line))
+IsGraphCause wake input (serve.ArcBeforeProblem line) = TextIs input (Err (gr.ArcBeforeProblem line))
+IsGraphCause wake input (serve.SecondProblem line) = TextIs input (Err (gr.SecondProblem line))
+IsGraphCause wake input (serve.Number line) = TextIs input (Err (gr.Number line))
+IsGraphCause wake input (serve.NodeRange line) = TextIs input (Err (gr.NodeRange line))
+IsGraphCause wake input serve.NoProblem = TextIs input (Err gr.NoProblem)
+IsGraphCause wake input (serve.ArcCount said found) = TextIs input (Err (gr.ArcCount said found))
+IsGraphCause wake input serve.TooLong = TextIs input (Err gr.TooLong)
+IsGraphCause wake input (serve.NoNode v) = (graph : RawShape) × TextIs input (Ok graph) × (missing wake graph.nodes ≡ Some v)
+IsGraphCause wake input serve.Memory = Unit {0}
+IsGraphCause wake input serve.Read = Unit {0}
+IsGraphCause wake input _ = ⊥
 
 -- the input is the text of a graph, and the output is of this graph
-abbrev pub IsOfText : (Shape → List ℕ → Type 0) → List ℕ → List ℕ → Type 0
-IsOfText Tells input output = (graph : RawShape) × TextIs input (Ok graph) × Tells (shape_of graph) output
+abbrev pub IsOfText : WakeSet → (Shape → List ℕ → Type 0) → List ℕ → List ℕ → Type 0
+IsOfText wake Tells input output = (graph : RawShape) × IsRead wake input graph × Tells (shape_of graph) output
 
 -- why there is no output: the graph's text, or the graph
-abbrev pub IsTextCause : (Shape → ServeFault → Type 0) → List ℕ → ServeFault → Type 0
-IsTextCause Fails input fault = IsGraphCause input fault ⊎ ((graph : RawShape) × TextIs input (Ok graph) × Fails (shape_of graph) fault)
+abbrev pub IsTextCause : WakeSet → (Shape → ServeFault → Type 0) → List ℕ → ServeFault → Type 0
+IsTextCause wake Fails input fault = IsGraphCause wake input fault ⊎ ((graph : RawShape) × IsRead wake input graph × Fails (shape_of graph) fault)
 
 -- the input is the text of a graph, what is stored that of events of a protocol, and the output tells of both
-pub record IsOfBoth (p : Protocol) (Tells : Shape → List Event → List ℕ → Type 0) (stored input output : List ℕ) : Type 0 where
+pub record IsOfBoth (p : Protocol) (wake : WakeSet) (Tells : Shape → List Event → List ℕ → Type 0) (stored input output : List ℕ) : Type 0 where
   pub graph : RawShape
-  pub text : TextIs input (Ok graph)
+  pub text : IsRead wake input graph
   pub events : List Event
   pub trace : IsTraceText p stored events
   pub told : Tells (shape_of graph) events output
 
 -- a trace is stored and the input is the text of a graph, and they give this fault together
-pub record GiveFault (p : Protocol) (Fails : Shape → List Event → ServeFault → Type 0) (stored input : List ℕ) (fault : ServeFault) : Type 0 where
+pub record GiveFault (p : Protocol) (wake : WakeSet) (Fails : Shape → List Event → ServeFault → Type 0) (stored input : List ℕ) (fault : ServeFault) : Type 0 where
   pub events : List Event
   pub trace : IsTraceText p stored events
   pub graph : RawShape
-  pub text : TextIs input (Ok graph)
+  pub text : IsRead wake input graph
   pub cause : Fails (shape_of graph) events fault
 
 -- why there is no output: the trace, which is read first, the graph's text, or both together
-abbrev pub IsBothCause : Protocol → (Shape → List Event → ServeFault → Type 0) → List ℕ → List ℕ → ServeFault → Type 0
-IsBothCause p Fails stored input fault =
+abbrev pub IsBothCause : Protocol → WakeSet → (Shape → List Event → ServeFault → Type 0) → List ℕ → List ℕ → ServeFault → Type 0
+IsBothCause p wake Fails stored input fault =
     IsTraceCause p stored fault
-    ⊎ (((events : List Event) × IsTraceText p stored events × IsGraphCause input fault) ⊎ GiveFault p Fails stored input fault)
+    ⊎ (((events : List Event) × IsTraceText p stored events × IsGraphCause wake input fault) ⊎ GiveFault p wake Fails stored input fault)
 
 -- the input is the text of a graph, and the output that of its minimum spanning forest, with the cores to which merging it leads,
 -- where they are asked for
@@ -159,11 +168,11 @@ of_input prints cause = record {
 }
 
 -- and of what is stored
-abbrev pub of_both : Protocol → (Shape → List Event → List ℕ → Type 0) → (Shape → List Event → ServeFault → Type 0) → Meaning
-of_both p Tells Fails = record {
-  prints = IsOfBoth p Tells;
+abbrev pub of_both : Protocol → WakeSet → (Shape → List Event → List ℕ → Type 0) → (Shape → List Event → ServeFault → Type 0) → Meaning
+of_both p wake Tells Fails = record {
+  prints = IsOfBoth p wake Tells;
   prints_at_limit = λ stored input output. ⊥;
-  cause = IsBothCause p Fails;
+  cause = IsBothCause p wake Fails;
   is_bounded = λ input. ⊥;
   shows_events = false;
   by_portions = false;
@@ -171,20 +180,20 @@ of_both p Tells Fails = record {
 }
 
 abbrev pub meaning_of : Task → Meaning
-meaning_of (task.Tree core) = of_input (IsTreeText core) IsGraphCause
-meaning_of (task.Run p o) = record (of_input (IsOfText (λ g. (verbs_of p).runs o g false)) (IsTextCause ((verbs_of p).stops o))) {
-  prints_at_limit = λ stored. IsOfText (λ g. (verbs_of p).runs o g true);
+meaning_of (task.Tree core) = of_input (IsTreeText core) (IsGraphCause All)
+meaning_of (task.Run p o) = record (of_input (IsOfText o.wake (λ g. (verbs_of p).runs o g false)) (IsTextCause o.wake ((verbs_of p).stops o))) {
+  prints_at_limit = λ stored. IsOfText o.wake (λ g. (verbs_of p).runs o g true);
   is_bounded = λ input. (graph : RawShape) × TextIs input (Ok graph) × (verbs_of p).is_bounded o (shape_of graph);
   shows_events = is_events o.show;
 }
-meaning_of (task.Replay p wake) = of_both p ((verbs_of p).replays wake) ((verbs_of p).cant_replay wake)
-meaning_of (task.Steps p o) = record (of_both p ((verbs_of p).tells o) (λ g events. CantTell ((verbs_of p).is_unlawful o.wake g events))) {
+meaning_of (task.Replay p wake) = of_both p wake ((verbs_of p).replays wake) ((verbs_of p).cant_replay wake)
+meaning_of (task.Steps p o) = record (of_both p o.wake ((verbs_of p).tells o) (λ g events. CantTell ((verbs_of p).is_unlawful o.wake g events))) {
   by_portions = true;
 }
-meaning_of (task.Sweep p o) = of_input (IsOfText ((verbs_of p).sweeps o)) IsGraphCause
-meaning_of (task.View p o) = of_input (IsOfText ((verbs_of p).views o)) (IsTextCause ((verbs_of p).cant_view o))
-meaning_of (task.StoredView p o) = of_both p ((verbs_of p).views_stored o) ((verbs_of p).cant_view_stored o)
-meaning_of (task.Explore p o) = of_input (IsOfText ((verbs_of p).explores o)) (IsTextCause ((verbs_of p).cant_explore o))
+meaning_of (task.Sweep p o) = of_input (IsOfText o.wake ((verbs_of p).sweeps o)) (IsGraphCause o.wake)
+meaning_of (task.View p o) = of_input (IsOfText o.wake ((verbs_of p).views o)) (IsTextCause o.wake ((verbs_of p).cant_view o))
+meaning_of (task.StoredView p o) = of_both p o.wake ((verbs_of p).views_stored o) ((verbs_of p).cant_view_stored o)
+meaning_of (task.Explore p o) = of_input (IsOfText o.wake ((verbs_of p).explores o)) (IsTextCause o.wake ((verbs_of p).cant_explore o))
 meaning_of (task.Make asked) = record (of_input (λ input. IsMade asked) (λ input. IsMakeCause asked)) { by_portions = true }
 
 -- where the events of a run are asked for, they have gone out before the answer that its turns are used

@@ -33,6 +33,8 @@ pub enum ServeFault {
     NodeRange(u32),
     #[error("no problem line")]
     NoProblem,
+    #[error("no such node to wake: {0}")]
+    NoNode(u32),
     #[error("arcs said {said}, found {found}")]
     ArcCount { said: u32, found: u32 },
     #[error("input too long")]

@@ -16,6 +16,7 @@ use ghs_choices::form::Form;
 use ghs_commands::job::{Sheet, SweepOptions};
 use ghs_gr::device::{Sink, Source};
 use ghs_graph::graph::Graph;
+use peer_network::wake_set::WakeSet;
 use ghs_report::write_out::write_out;
 use peer_sweep::front::{FRONT_HEAD, front_of};
 use peer_sweep::table::Table;
@@ -30,19 +31,21 @@ pub struct Network {
     pub graph: Graph,
 }
 
-/// Reads the network of this name that a device gives. Faults: those of the graph's text, and lack of memory.
+/// Reads the network of this name that a device gives. Faults: those of the graph's text, a node that the wake set lists and
+/// the graph doesn't have, and lack of memory.
 pub fn read_network<S: Source>(
     alloc: Global,
     name: &str,
+    wake: WakeSet,
     source: &mut S,
 ) -> Result<Network, ServeFault>
     requires { S.has_failed source.old ≡ false }
     ensures name { IfOk result (λ network. string_bytes network.name ≡ name.now) }
-    ensures graph { IfOk result (λ network. IfSome (S.left source.old) (λ input. IsTextOf input network.graph)) }
-    ensures fault { IfErr result (λ fault. IfSome (S.left source.old) (λ input. IsGraphCause input fault)) }
+    ensures graph { IfOk result (λ network. IfSome (S.left source.old) (λ input. IsTextOf wake input network.graph)) }
+    ensures fault { IfErr result (λ fault. IfSome (S.left source.old) (λ input. IsGraphCause wake input fault)) }
     ensures read { IsErrOf result ServeFault.Read ↔ (S.has_failed source.new ≡ true) }
 {
-    let graph = graph_of(alloc, source)?;
+    let graph = graph_of(alloc, wake, source)?;
     let name = String::from_str(alloc, name)?;
     Ok(Network { name, graph })
 }
@@ -52,7 +55,7 @@ pub fn read_network<S: Source>(
 /// and it is the same for every number of threads. Faults: lack of memory, and then a write that fails.
 ///
 /// ```text
-/// networks.push(read_network(alloc, "star.gr", &mut Device::of(file))?)?;
+/// networks.push(read_network(alloc, "star.gr", WakeSet::All, &mut Device::of(file))?)?;
 /// sweep_networks(rt, alloc, Protocol::Ghs, &options, &networks, &mut out)?;
 /// // a head line that begins with graph, and a line for each network and seed
 /// ```

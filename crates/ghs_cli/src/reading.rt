@@ -9,21 +9,29 @@ use ghs_gr::judgement::read_gr;
 use ghs_gr::text::read_text;
 use ghs_graph::graph::Graph;
 use peer_network::event::Event;
+use peer_network::wake_set::WakeSet;
 use peer_texts::trace::EVENT_LIMIT;
 use peer_trace::protocol::Protocol;
 use peer_trace::trace::read_trace_of;
 use std::alloc::Global;
 
-/// The graph whose text the device gives.
-pub fn graph_of<R: Source>(alloc: Global, graph: &mut R) -> Result<Graph, ServeFault>
+/// The graph whose text the device gives. It has each node that the wake set lists.
+pub fn graph_of<R: Source>(
+    alloc: Global,
+    wake: WakeSet,
+    graph: &mut R,
+) -> Result<Graph, ServeFault>
     requires { R.has_failed graph.old ≡ false }
-    ensures text { IfOk result (λ built. IfSome (R.left graph.old) (λ input. IsTextOf input built)) }
-    ensures fault { IfErr result (λ fault. IfSome (R.left graph.old) (λ input. IsGraphCause input fault)) }
+    ensures text { IfOk result (λ built. IfSome (R.left graph.old) (λ input. IsTextOf wake input built)) }
+    ensures fault { IfErr result (λ fault. IfSome (R.left graph.old) (λ input. IsGraphCause wake input fault)) }
     ensures early { IfErr result (λ fault. is_write fault ≡ false) }
     ensures goes_on { IfErr result (λ fault. is_limit fault ≡ false) }
     ensures read { IsErrOf result ServeFault.Read ↔ (R.has_failed graph.new ≡ true) }
 {
     let raw = read_gr(alloc, graph)?;
+    if let Some(node) = wake.missing(raw.nodes()) {
+        return Err(ServeFault::NoNode(node));
+    }
     match Graph::build(alloc, raw) {
         Ok(built) => Ok(built),
         Err(_) => Err(ServeFault::Memory),

@@ -102,13 +102,13 @@ fn output_of<S: Source, R: Threads + Wait + Eprint + Sync>(
 ) -> Result<Output, ServeFault>
     requires limits { AreWithinLimits options.now }
     requires graph { S.has_failed graph.old ≡ false }
-    ensures output { IfOk result (λ o. IfSome (S.left graph.old) (λ input. IsOfText (λ g. (verbs_of protocol).runs options.now g o.at_limit) input o.text.items)) }
+    ensures output { IfOk result (λ o. IfSome (S.left graph.old) (λ input. IsOfText options.now.wake (λ g. (verbs_of protocol).runs options.now g o.at_limit) input o.text.items)) }
     ensures limit { IfOk result (λ o. o.at_limit ≡ true → options.now.show ≡ Events) }
-    ensures fault { IfErr result (λ fault. IfSome (S.left graph.old) (λ input. IsTextCause ((verbs_of protocol).stops options.now) input fault)) }
+    ensures fault { IfErr result (λ fault. IfSome (S.left graph.old) (λ input. IsTextCause options.now.wake ((verbs_of protocol).stops options.now) input fault)) }
     ensures early { IfErr result (λ fault. is_late (Task.Run protocol options.now) fault ≡ false) }
     ensures read { IsErrOf result ServeFault.Read ↔ (S.has_failed graph.new ≡ true) }
 {
-    let graph = graph_of(alloc, graph)?;
+    let graph = graph_of(alloc, options.wake, graph)?;
     ran_by(rt, alloc, protocol, options, graph)
 }
 

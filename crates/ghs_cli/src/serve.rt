@@ -2,6 +2,7 @@
 ghost use Rattle.ghs_commands.specs.Job.{IsWithinLimits};
 ghost use Rattle.ghs_cli.specs.Serving.{IfStored, IsBoundedTask, IsGraphCause, IsTreeText, IsUnread, IsUnwritten, IsWrite, Serves, is_write};
 ghost use Rattle.ghs_cli.specs.declared.fault.ServeFault.{ServeFault};
+ghost use Rattle.peer_network.specs.declared.wake_set.WakeSet.TheVariants.{All};
 ghost use Rattle.std.specs.Prelude.{◌≡◌, ◌⊎◌, ◌↔◌, false, true, IfSome, IsErrOf, IfErr, IfOk};
 
 use crate::exploring::explored_text_of;
@@ -90,7 +91,7 @@ pub fn serve<R: Source, T: Source, W: Sink, H: Threads + Wait + Eprint + Sync>(
 fn tree_text_of<R: Source>(alloc: Global, core: bool, graph: &mut R) -> Result<Vec<u8>, ServeFault>
     requires { R.has_failed graph.old ≡ false }
     ensures text { IfOk result (λ text. IfSome (R.left graph.old) (λ input. IsTreeText core input text.items)) }
-    ensures fault { IfErr result (λ fault. IfSome (R.left graph.old) (λ input. IsGraphCause input fault)) }
+    ensures fault { IfErr result (λ fault. IfSome (R.left graph.old) (λ input. IsGraphCause All input fault)) }
     ensures early { IfErr result (λ fault. is_write fault ≡ false) }
     ensures read { IsErrOf result ServeFault.Read ↔ (R.has_failed graph.new ≡ true) }
 {

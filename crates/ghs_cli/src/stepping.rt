@@ -41,7 +41,7 @@ pub(crate) fn write_steps_of<R: Source, T: Source, W: Sink>(
     ensures unwritten { IfErr result (λ fault. is_late (Task.Steps protocol options.now) fault ≡ false → out.new ≡ out.old) }
 {
     let events = events_of(alloc, protocol, trace)?;
-    let graph = graph_of(alloc, graph)?;
+    let graph = graph_of(alloc, options.wake, graph)?;
     told_by(alloc, protocol, options, graph, &events, out)
 }
 

@@ -46,12 +46,12 @@ pub(crate) fn sweep_text_of<S: Source, R: Threads + Sync + Eprint>(
 ) -> Result<Vec<u8>, ServeFault>
     requires limits { AreSweepLimits options.now }
     requires graph { S.has_failed graph.old ≡ false }
-    ensures text { IfOk result (λ text. IfSome (S.left graph.old) (λ input. IsOfText ((verbs_of protocol).sweeps options.now) input text.items)) }
-    ensures fault { IfErr result (λ fault. IfSome (S.left graph.old) (λ input. IsGraphCause input fault)) }
+    ensures text { IfOk result (λ text. IfSome (S.left graph.old) (λ input. IsOfText options.now.wake ((verbs_of protocol).sweeps options.now) input text.items)) }
+    ensures fault { IfErr result (λ fault. IfSome (S.left graph.old) (λ input. IsGraphCause options.now.wake input fault)) }
     ensures early { IfErr result (λ fault. is_write fault ≡ false) }
     ensures read { IsErrOf result ServeFault.Read ↔ (S.has_failed graph.new ≡ true) }
 {
-    let graph = graph_of(alloc, graph)?;
+    let graph = graph_of(alloc, options.wake, graph)?;
     Ok(sweep_text(rt, alloc, protocol, options, &graph)?)
 }
 

@@ -3,4 +3,5 @@ mod Choices
 mod Commands
 mod Numbers
 mod Said
+mod Listing
 mod WordExamples

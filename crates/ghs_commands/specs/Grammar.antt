@@ -115,7 +115,7 @@ wake_rule = option_rule (codes "wake") (codes "all")
 abbrev pub tree_command : App
 tree_command = with_rules (file_rule ∷ core_rule ∷ []) (new_app (codes "tree"))
 
--- `run [FILE] [--protocol ghs|boruvka|echo] [--seed S] [--schedule seeded|patient|rounds|waits|lifo|round-robin] [--workers W] [--wake all|first]
+-- `run [FILE] [--protocol ghs|boruvka|echo] [--seed S] [--schedule seeded|patient|rounds|waits|lifo|round-robin] [--workers W] [--wake all|first|V,..]
 -- [--turns T] [--print report|trace|time] [--core] [--progress] [--tally]`
 abbrev pub run_command : App
 run_command =
@@ -124,11 +124,11 @@ run_command =
     ∷ turns_rule ∷ print_rule ∷ core_rule ∷ progress_rule ∷ tally_rule ∷ [])
     (new_app (codes "run"))
 
--- `replay TRACE [FILE] [--protocol ghs|boruvka|echo] [--wake all|first]`
+-- `replay TRACE [FILE] [--protocol ghs|boruvka|echo] [--wake all|first|V,..]`
 abbrev pub replay_command : App
 replay_command = with_rules (trace_rule ∷ file_rule ∷ protocol_rule ∷ wake_rule ∷ []) (new_app (codes "replay"))
 
--- `steps TRACE [FILE] [--protocol ghs|boruvka|echo] [--wake all|first] [--from A] [--to B] [--node V] [--json]`
+-- `steps TRACE [FILE] [--protocol ghs|boruvka|echo] [--wake all|first|V,..] [--from A] [--to B] [--node V] [--json]`
 abbrev pub steps_command : App
 steps_command =
     with_rules (trace_rule ∷ file_rule ∷ protocol_rule ∷ wake_rule ∷ from_rule ∷ to_rule ∷ node_rule ∷ json_rule ∷ []) (new_app (codes "steps"))
@@ -137,12 +137,12 @@ steps_command =
 abbrev pub book_rule : Rule
 book_rule = record (new_rule (codes "book")) { long = Some (codes "book"); required = true }
 
--- `judge TRACE [FILE] --book BOOK [--wake all|first]`
+-- `judge TRACE [FILE] --book BOOK [--wake all|first|V,..]`
 abbrev pub judge_command : App
 judge_command = with_rules (trace_rule ∷ file_rule ∷ book_rule ∷ wake_rule ∷ []) (new_app (codes "judge"))
 
 -- `sweep [FILE ..] [--protocol ghs|boruvka|echo] --seeds FIRST..LAST [--schedule seeded|patient|rounds|waits|lifo|round-robin] [--workers W]
--- [--wake all|first] [--turns T] [--print runs|summary|chart] [--by node|level|rule] [--names] [--json] [--progress]`
+-- [--wake all|first|V,..] [--turns T] [--print runs|summary|chart] [--by node|level|rule] [--names] [--json] [--progress]`
 abbrev pub sweep_command : App
 sweep_command =
     with_rules
@@ -151,7 +151,7 @@ sweep_command =
     (new_app (codes "sweep"))
 
 -- `view [FILE] [--protocol ghs|boruvka|echo] [--seed S] [--seeds FIRST,SECOND] [--schedule seeded|patient|rounds|waits|lifo|round-robin]
--- [--wake all|first] [--turns T] [--trace TRACE] [--from A] [--to B]`
+-- [--wake all|first|V,..] [--turns T] [--trace TRACE] [--from A] [--to B]`
 abbrev pub view_command : App
 view_command =
     with_rules
@@ -195,7 +195,7 @@ found_rule = record (new_rule (codes "found")) { long = Some (codes "print"); de
 abbrev pub end_rule : Rule
 end_rule = option_rule (codes "end") (codes "1")
 
--- `explore [FILE] [--protocol ghs|boruvka|echo] [--wake all|first] [--limit STATES] [--print report|trace] [--end K] [--progress]`
+-- `explore [FILE] [--protocol ghs|boruvka|echo] [--wake all|first|V,..] [--limit STATES] [--print report|trace] [--end K] [--progress]`
 abbrev pub explore_command : App
 explore_command =
     with_rules (file_rule ∷ protocol_rule ∷ wake_rule ∷ limit_rule ∷ found_rule ∷ end_rule ∷ progress_rule ∷ []) (new_app (codes "explore"))

@@ -15,7 +15,7 @@ use Rattle.ghs_choices.specs.declared.schedule_kind.ScheduleKind.{ScheduleKind}
 use Rattle.ghs_choices.specs.declared.schedule_kind.ScheduleKind.TheVariants.{Lifo, Patient, RoundRobin, Rounds, Waits}
 use Rattle.peer_texts.specs.declared.trace.TheConstants.{EVENT_LIMIT}
 use Rattle.peer_network.specs.declared.wake_set.WakeSet.{WakeSet}
-use Rattle.peer_network.specs.declared.wake_set.WakeSet.TheVariants.{First}
+use Rattle.peer_network.specs.declared.wake_set.WakeSet.TheVariants.{All}
 use Rattle.ghs_commands.specs.Grammar.{program}
 use Rattle.ghs_commands.specs.declared.job.JobFault.{JobFault}
 use Rattle.ghs_commands.specs.declared.job.JobFault.TheVariants as fault
@@ -48,6 +48,7 @@ use Rattle.peer_trace.specs.declared.protocol.Protocol.TheVariants.{Ghs}
 use Rattle.ghs_commands.specs.Parts.{by_named, go_together, is_part, is_said}
 use Rattle.ghs_commands.specs.Protocols.{is_protocol}
 use Rattle.ghs_commands.specs.TwoSeeds.{are_two, two_seeds_of}
+use Rattle.ghs_commands.specs.Wakers.{is_wake, wake_named}
 use Rattle.ghs_commands.specs.Values.{AreSeeds, are_apart, are_weights, is_among, is_kind, is_number, is_range, number_in, seeds_of}
 
 -- the words of a command line, with the program's name before them
@@ -70,9 +71,12 @@ name_in command = option_map (λ p. p.0) command
 abbrev pub value_in : Text → Used → Option Text
 value_in id command = option_and_then (λ p. first_of id p.1) command
 
--- the wake set that `--wake` names; a choice has one of its values, or the words are refused
+-- the wake set that `--wake` names; it names one, or the words are refused
+abbrev pub wake_in : Used → WakeSet
+wake_in command = unwrap_or (option_and_then wake_named (value_in (codes "wake") command)) All
+
 abbrev pub IsWake : Used → WakeSet → Type 0
-IsWake command wake = (wake ≡ First) ↔ (value_in (codes "wake") command ≡ Some (codes "first"))
+IsWake command wake = wake ≡ wake_in command
 
 -- what of a run is printed, as `--print` says
 pub record IsShow (command : Used) (show : Show) : Type 0 where
@@ -323,7 +327,7 @@ has_prints command =
 -- each choice of the command is one that there is
 abbrev pub has_choices : Used → Bool
 has_choices command =
-    is_among (codes "all" ∷ codes "first" ∷ []) (value_in (codes "wake") command)
+    is_wake (value_in (codes "wake") command)
     && has_prints command
     && is_among (codes "seeded" ∷ codes "patient" ∷ codes "rounds" ∷ codes "waits" ∷ codes "lifo" ∷ codes "round-robin" ∷ [])
     (value_in (codes "schedule") command)

@@ -1,6 +1,6 @@
 -- Which nodes wake by themselves, as a value.
 use Rattle.std.specs.Prelude.{ℕ, zero, suc, ◌∷◌, Bool, true, codes, cond, eqb, nat_lt, length, replicate, List, Option, Some, None, is_some}
-use Rattle.std.specs.List.{after_first, before_first, position_or_len}
+use Rattle.std.specs.List.{position_or_len}
 use Rattle.std.specs.Option.{option_map}
 use Rattle.std.specs.Str.{bytes_eq}
 use Rattle.clap.specs.Words.{Text}
@@ -24,7 +24,7 @@ node_then (Some v) (Some vs) = Some (v ∷ vs)
 node_then _ _ = None
 
 -- the nodes that a text lists between commas, n at most; 0 stands for each that is left
-abbrev pub listed : ℕ → Text → Option (List ℕ)
+unfoldable pub listed : ℕ → Text → Option (List ℕ)
 listed zero text = None
 listed (suc n) text = node_then (node_in (before_comma text)) (cond (has_comma text) (listed n (behind_comma text)) (Some (replicate n 0)))
 

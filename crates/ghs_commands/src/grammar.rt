@@ -603,7 +603,7 @@ fn wake<'a>(alloc: Global) -> Arg<'a>
     ensures rule { rule_of result ≡ wake_rule }
 {
     option(alloc, "wake", "all").help(
-        "Which nodes wake by themselves: all, or first, the smallest node of each component",
+        "Which nodes wake by themselves: all; first, the smallest node of each component; or V,W,..: up to 16 nodes, and the smallest of each other component",
     )
 }
 

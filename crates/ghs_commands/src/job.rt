@@ -6,6 +6,7 @@ ghost use Rattle.ghs_commands.specs.Values.{AreSeeds, are_apart, are_weights, is
 ghost use Rattle.ghs_commands.specs.Networks.{are_read_once, values_in};
 ghost use Rattle.ghs_commands.specs.Parts.{go_together, is_part};
 ghost use Rattle.ghs_commands.specs.TwoSeeds.{are_two};
+ghost use Rattle.ghs_commands.specs.Wakers.{is_wake};
 ghost use Rattle.clap.specs.Words.{kind_of, subcommand_rows_of};
 ghost use Rattle.std.specs.Option.{option_map};
 ghost use Rattle.std.specs.Prelude.{◌≡◌, ◌≤◌, ◌↔◌, ◌∷◌, [], IfErr, IfOk, IfSome, IsTrue, OnErr, OnOk, Some, codes, false, map, string_bytes, true};
@@ -16,6 +17,7 @@ use crate::networks::{are_read_once, input_twice, named_of, values_of};
 use crate::parts::{by_named, go_together, is_part, no_such_sheet};
 use crate::protocols::{check_protocol, protocol_of};
 use crate::two_seeds::{TwoSeeds, are_two, no_two_seeds, two_seeds_in};
+use crate::wakers::{is_wake, no_wake, wake_named};
 use crate::values::{
     Seeds, are_apart, are_weights, is_among, is_kind, is_number, is_range, is_text, no_kind,
     no_nodes, no_number, no_seeds, number_in, owned, read_twice, seeds_in, unknown_choice,
@@ -319,7 +321,7 @@ fn check_choices<'a>(alloc: Global, matches: &ArgMatches<'a>) -> Result<(), JobF
     ensures err { OnErr result (has_choices (subcommand_rows_of matches.now) ≡ false) }
     ensures fault { IfErr result IsRefused }
 {
-    check_choice(alloc, matches, "wake", "wake", &["all", "first"])?;
+    check_wake(alloc, matches)?;
     check_prints(alloc, matches)?;
     check_choice(
         alloc,
@@ -335,6 +337,20 @@ fn check_choices<'a>(alloc: Global, matches: &ArgMatches<'a>) -> Result<(), JobF
             "round-robin",
         ],
     )
+}
+
+/// Whether `--wake` names a wake set.
+fn check_wake<'a>(alloc: Global, matches: &ArgMatches<'a>) -> Result<(), JobFault>
+    ensures ok { OnOk result (is_wake (value_in (codes "wake") (subcommand_rows_of matches.now)) ≡ true) }
+    ensures err { OnErr result (is_wake (value_in (codes "wake") (subcommand_rows_of matches.now)) ≡ false) }
+    ensures fault { IfErr result IsRefused }
+{
+    let value = value_of(matches, "wake");
+    if is_wake(value) {
+        Ok(())
+    } else {
+        Err(no_wake(alloc, value))
+    }
 }
 
 /// Whether what is printed of a run, of a sweep or of an exploration is one of its choices.
@@ -875,10 +891,12 @@ pub(crate) fn seeds_of<'a>(matches: &ArgMatches<'a>) -> Seeds
 pub(crate) fn wake_of<'a>(matches: &ArgMatches<'a>) -> WakeSet
     ensures { IsWake (subcommand_rows_of matches.now) result }
 {
-    if is_text(value_of(matches, "wake"), "first") {
-        WakeSet::First
-    } else {
-        WakeSet::All
+    let Some(value) = value_of(matches, "wake") else {
+        return WakeSet::All;
+    };
+    match wake_named(value) {
+        Some(wake) => wake,
+        None => WakeSet::All,
     }
 }
 

@@ -45,10 +45,16 @@ fn listed(text: &str) -> Option<[u32; MOST_WAKERS]>
     let mut rest = text;
     for place in 0..MOST_WAKERS {
         let Some((first, behind)) = rest.split_once(',') else {
-            nodes[place] = node_in(rest)?;
+            let Some(node) = node_in(rest) else {
+                return None;
+            };
+            nodes[place] = node;
             return Some(nodes);
         };
-        nodes[place] = node_in(first)?;
+        let Some(node) = node_in(first) else {
+            return None;
+        };
+        nodes[place] = node;
         rest = behind;
     }
     None

@@ -11,7 +11,7 @@ use Rattle.ghs_cli.proofs.running.write_run_of.Goals as goal
 pub returns-in_err-output-clause-serves : goal.returns-in_err-output-clause-serves
 returns-in_err-output-clause-serves g c =
     let is : c.from_residual.result ≡ Err c.in_err-output.field-0.0 = search rules in λ stored.
-    if_some (g.S.Source.left c.args.graph.now) (λ input. IsTextCause
+    if_some (g.S.Source.left c.args.graph.now) (λ input. IsTextCause c.args.options.now.wake
     ((verbs_of c.args.protocol).stops c.args.options.now) input c.in_err-output.field-0.0) _
     (λ input cause. serves_fault (task.Run c.args.protocol c.args.options.now) stored input _ _ c.from_residual.result c.in_err-output.field-0.0 is
     c.in_err-output.ensures.early cause)
@@ -20,7 +20,7 @@ returns-in_err-output-clause-serves g c =
 pub returns-in_err-write_out-clause-serves : goal.returns-in_err-write_out-clause-serves
 returns-in_err-write_out-clause-serves g c =
     let is : c.from_residual-in_err-write_out.result ≡ Err (serve.Write c.in_err-write_out.field-0.0.written) = search rules in λ stored.
-    if_some _ (λ input. IsOfText (λ s. (verbs_of c.args.protocol).runs c.args.options.now s c.in_ok-output.output.at_limit) input
+    if_some _ (λ input. IsOfText c.args.options.now.wake (λ s. (verbs_of c.args.protocol).runs c.args.options.now s c.in_ok-output.output.at_limit) input
     c.in_ok-output.output.text.items) _
     (λ input out. serves_part (task.Run c.args.protocol c.args.options.now) stored input c.deref.result.now c.in_ok-output.output.text.items
     (g.W.Sink.held c.args.out.now) (g.W.Sink.held c.write_out.new.writer)
@@ -31,10 +31,10 @@ returns-in_err-write_out-clause-serves g c =
 
 pub returns-then-output-clause-serves : goal.returns-then-output-clause-serves
 returns-then-output-clause-serves g c = λ stored.
-    if_some _ (λ input. IsOfText (λ s. (verbs_of c.args.protocol).runs c.args.options.now s c.in_ok-output.output.at_limit) input
+    if_some _ (λ input. IsOfText c.args.options.now.wake (λ s. (verbs_of c.args.protocol).runs c.args.options.now s c.in_ok-output.output.at_limit) input
     c.in_ok-output.output.text.items) _
     (λ input out.
-    let stopped = subst (λ (b : Bool). IsOfText (λ s.
+    let stopped = subst (λ (b : Bool). IsOfText c.args.options.now.wake (λ s.
     (verbs_of c.args.protocol).runs c.args.options.now s b) input c.in_ok-output.output.text.items) c.if-output.true out in
     serves_limit (task.Run c.args.protocol c.args.options.now) stored input c.deref.result.now c.in_ok-output.output.text.items
     (g.W.Sink.held c.args.out.now)
@@ -44,17 +44,17 @@ returns-then-output-clause-serves g c = λ stored.
 
 pub returns-clause-serves : goal.returns-clause-serves
 returns-clause-serves g c = λ stored.
-    if_some _ (λ input. IsOfText (λ s. (verbs_of c.args.protocol).runs c.args.options.now s c.in_ok-output.output.at_limit) input
+    if_some _ (λ input. IsOfText c.args.options.now.wake (λ s. (verbs_of c.args.protocol).runs c.args.options.now s c.in_ok-output.output.at_limit) input
     c.in_ok-output.output.text.items) _
     (λ input out. serves_all (task.Run c.args.protocol c.args.options.now) stored input c.deref.result.now c.in_ok-output.output.text.items
     (g.W.Sink.held c.args.out.now) (g.W.Sink.held c.write_out.new.writer) c.deref.ensures.value c.in_ok-write_out.ensures.ok
-    (subst (λ (b : Bool). IsOfText (λ s. (verbs_of c.args.protocol).runs c.args.options.now s b) input c.in_ok-output.output.text.items)
+    (subst (λ (b : Bool). IsOfText c.args.options.now.wake (λ s. (verbs_of c.args.protocol).runs c.args.options.now s b) input c.in_ok-output.output.text.items)
     c.if-output.false out))
     c.in_ok-output.ensures.output
 
 pub returns-in_err-output-clause-ends : goal.returns-in_err-output-clause-ends
 returns-in_err-output-clause-ends g c =
-    ends_by (task.Run c.args.protocol c.args.options.now) (IsTextCause ((verbs_of c.args.protocol).stops c.args.options.now))
+    ends_by (task.Run c.args.protocol c.args.options.now) (IsTextCause c.args.options.now.wake ((verbs_of c.args.protocol).stops c.args.options.now))
     (g.S.Source.left c.args.graph.now) c.from_residual.result
     c.in_err-output.field-0.0 c.law_one_judgement.ensures (goes_on c.args.protocol c.args.options.now c.law_never_stops.ensures)
     (search rules) c.in_err-output.ensures.fault
@@ -67,12 +67,12 @@ returns-in_err-write_out-clause-ends g c =
 
 pub returns-then-output-clause-ends : goal.returns-then-output-clause-ends
 returns-then-output-clause-ends g c =
-    ends_behind (task.Run c.args.protocol c.args.options.now) (λ i. IsOfText (λ s.
+    ends_behind (task.Run c.args.protocol c.args.options.now) (λ i. IsOfText c.args.options.now.wake (λ s.
     (verbs_of c.args.protocol).runs c.args.options.now s true) i c.in_ok-output.output.text.items)
     (g.S.Source.left c.args.graph.now) (Err serve.TurnLimit) c.law_one_judgement.ensures
     (λ i one out. goes_on c.args.protocol c.args.options.now c.law_never_stops.ensures i one
     (limit_cause c.args.protocol c.args.options.now i c.in_ok-output.output.text.items out))
-    (subst (λ (b : Bool). IfSome (g.S.Source.left c.args.graph.now) (λ i. IsOfText (λ s.
+    (subst (λ (b : Bool). IfSome (g.S.Source.left c.args.graph.now) (λ i. IsOfText c.args.options.now.wake (λ s.
     (verbs_of c.args.protocol).runs c.args.options.now s b) i c.in_ok-output.output.text.items))
     c.if-output.true c.in_ok-output.ensures.output)
 
