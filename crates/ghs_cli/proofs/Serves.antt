@@ -40,7 +40,8 @@ serves_cause job stored input old new (serve.Write written) early cause = cc
 serves_cause job stored input old new fault early cause = cause
 
 -- what is told of a graph and of events is told of their texts,
-pub told_of : (p : Protocol) {wake : WakeSet} (Tells : Shape → List Event → List ℕ → Type 0) (stored input output : List ℕ) (g : Shape) (events : List Event) →
+pub told_of : (p : Protocol) {wake : WakeSet} (Tells : Shape → List Event → List ℕ → Type 0)
+    (stored input output : List ℕ) (g : Shape) (events : List Event) →
     IsTraceText p stored events →
     IsTextOf wake input g →
     Tells g events output →
@@ -54,7 +55,8 @@ told_of p Tells stored input output g events trace (raw, text, same) told = reco
 }
 
 -- and a fault of both is one of their texts
-pub fault_of : (p : Protocol) {wake : WakeSet} (Fails : Shape → List Event → ServeFault → Type 0) (stored input : List ℕ) (g : Shape) (events : List Event)
+pub fault_of : (p : Protocol) {wake : WakeSet} (Fails : Shape → List Event → ServeFault → Type 0)
+    (stored input : List ℕ) (g : Shape) (events : List Event)
     (fault : ServeFault) →
     IsTraceText p stored events →
     IsTextOf wake input g →
@@ -79,7 +81,8 @@ if_both p (Some s) None g events P all trace text = tt
 if_both p (Some s) (Some i) g events P all trace text = all s i trace text
 
 -- so what a result tells of both it tells of their texts,
-pub output_of_both : {A : Type 0} {wake : WakeSet} (r : Result A ServeFault) (out : A → List ℕ) (p : Protocol) (Tells : Shape → List Event → List ℕ → Type 0)
+pub output_of_both : {A : Type 0} {wake : WakeSet} (r : Result A ServeFault) (out : A → List ℕ) (p : Protocol)
+    (Tells : Shape → List Event → List ℕ → Type 0)
     (g : Shape) (events : List Event) (stored input : Option (List ℕ)) →
     IfOk r (λ x. Tells g events (out x)) →
     IfSome stored (λ s. IsTraceText p s events) →
@@ -92,7 +95,8 @@ output_of_both {wake = wake} (Ok x) out p Tells g events stored input told trace
     trace text
 
 -- and so does its fault
-pub cause_of_both : {A : Type 0} {wake : WakeSet} (r : Result A ServeFault) (p : Protocol) (Fails : Shape → List Event → ServeFault → Type 0) (g : Shape)
+pub cause_of_both : {A : Type 0} {wake : WakeSet} (r : Result A ServeFault) (p : Protocol)
+    (Fails : Shape → List Event → ServeFault → Type 0) (g : Shape)
     (events : List Event) (stored input : Option (List ℕ)) →
     IfErr r (Fails g events) →
     IfSome stored (λ s. IsTraceText p s events) →

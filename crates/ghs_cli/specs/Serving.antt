@@ -98,7 +98,8 @@ pub record IsOfBoth (p : Protocol) (wake : WakeSet) (Tells : Shape → List Even
   pub told : Tells (shape_of graph) events output
 
 -- a trace is stored and the input is the text of a graph, and they give this fault together
-pub record GiveFault (p : Protocol) (wake : WakeSet) (Fails : Shape → List Event → ServeFault → Type 0) (stored input : List ℕ) (fault : ServeFault) : Type 0 where
+pub record GiveFault (p : Protocol) (wake : WakeSet) (Fails : Shape → List Event → ServeFault → Type 0)
+    (stored input : List ℕ) (fault : ServeFault) : Type 0 where
   pub events : List Event
   pub trace : IsTraceText p stored events
   pub graph : RawShape

@@ -16,11 +16,7 @@ use peer_trace::trace::read_trace_of;
 use std::alloc::Global;
 
 /// The graph whose text the device gives. It has each node that the wake set lists.
-pub fn graph_of<R: Source>(
-    alloc: Global,
-    wake: WakeSet,
-    graph: &mut R,
-) -> Result<Graph, ServeFault>
+pub fn graph_of<R: Source>(alloc: Global, wake: WakeSet, graph: &mut R) -> Result<Graph, ServeFault>
     requires { R.has_failed graph.old ≡ false }
     ensures text { IfOk result (λ built. IfSome (R.left graph.old) (λ input. IsTextOf wake input built)) }
     ensures fault { IfErr result (λ fault. IfSome (R.left graph.old) (λ input. IsGraphCause wake input fault)) }

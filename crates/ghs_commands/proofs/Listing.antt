@@ -64,10 +64,12 @@ module _ (text rest : Text) (nodes : List ℕ) (place : ℕ) (lt : place < MOST_
     left = n;
     all = omega (arith, all);
     empty = drop-set-lt (place + 1) nodes place v (omega arith) ∙
-        (let next : suc place ≡ place + 1 = omega arith in subst (λ k. drop k nodes ≡ replicate n 0) next (one_less nodes place n (within size) empty));
+        (let next : suc place ≡ place + 1 = omega arith in
+        subst (λ k. drop k nodes ≡ replicate n 0) next (one_less nodes place n (within size) empty));
     same = same ∙
         ap (λ o. behind (take place nodes) (node_then o (cond (has_comma rest) (listed n (behind_comma rest)) (Some (replicate n 0))))) is ∙
-        ap (λ o. behind (take place nodes) (node_then (Some v) o)) (cond-true (has_comma rest) (listed n (behind_comma rest)) (Some (replicate n 0)) comma) ∙
+        ap (λ o. behind (take place nodes) (node_then (Some v) o))
+        (cond-true (has_comma rest) (listed n (behind_comma rest)) (Some (replicate n 0)) comma) ∙
         moved (take place nodes) v (listed n (behind_comma rest)) ∙
         ap (λ ns. behind ns (listed n (behind_comma rest))) (sym (take_more_set nodes place v (within size)));
   }
@@ -85,7 +87,8 @@ module _ (text rest : Text) (nodes : List ℕ) (place : ℕ) (lt : place < MOST_
   last_by v (suc n) size all empty same comma is =
       sym (same ∙
       ap (λ o. behind (take place nodes) (node_then o (cond (has_comma rest) (listed n (behind_comma rest)) (Some (replicate n 0))))) is ∙
-      ap (λ o. behind (take place nodes) (node_then (Some v) o)) (cond-false (has_comma rest) (listed n (behind_comma rest)) (Some (replicate n 0)) comma) ∙
+      ap (λ o. behind (take place nodes) (node_then (Some v) o))
+      (cond-false (has_comma rest) (listed n (behind_comma rest)) (Some (replicate n 0)) comma) ∙
       ap Some (
       ap (λ ns. take place nodes ++ v ∷ ns) (sym (one_less nodes place n (within size) empty)) ∙
       sym (set_split nodes place v (within size))

@@ -115,8 +115,8 @@ wake_rule = option_rule (codes "wake") (codes "all")
 abbrev pub tree_command : App
 tree_command = with_rules (file_rule ∷ core_rule ∷ []) (new_app (codes "tree"))
 
--- `run [FILE] [--protocol ghs|boruvka|echo] [--seed S] [--schedule seeded|patient|rounds|waits|lifo|round-robin] [--workers W] [--wake all|first|V,..]
--- [--turns T] [--print report|trace|time] [--core] [--progress] [--tally]`
+-- `run [FILE] [--protocol ghs|boruvka|echo] [--seed S] [--schedule seeded|patient|rounds|waits|lifo|round-robin] [--workers W]
+-- [--wake all|first|V,..] [--turns T] [--print report|trace|time] [--core] [--progress] [--tally]`
 abbrev pub run_command : App
 run_command =
     with_rules

@@ -17,11 +17,11 @@ use crate::networks::{are_read_once, input_twice, named_of, values_of};
 use crate::parts::{by_named, go_together, is_part, no_such_sheet};
 use crate::protocols::{check_protocol, protocol_of};
 use crate::two_seeds::{TwoSeeds, are_two, no_two_seeds, two_seeds_in};
-use crate::wakers::{is_wake, no_wake, wake_named};
 use crate::values::{
     Seeds, are_apart, are_weights, is_among, is_kind, is_number, is_range, is_text, no_kind,
     no_nodes, no_number, no_seeds, number_in, owned, read_twice, seeds_in, unknown_choice,
 };
+use crate::wakers::{is_wake, no_wake, wake_named};
 use clap::error::ErrorKind;
 use clap::{ArgMatches, Error};
 use ghs_choices::by::By;

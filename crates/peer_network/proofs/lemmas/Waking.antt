@@ -40,13 +40,24 @@ each_is_woken g (Listed wakers) ok v low high =
     let r = nodes_have_roots g.keys v in
     let n = joined_nodes g.nodes g.keys ok.among low high r.1.joined in
     let under = list_any (is_under g r.0) wakers.nodes in
-    let is_first_there = is_first g r.0 && not under in
+    let alone = is_first g r.0 && not under in
     ⊎_elim
     (λ some.
     let w = Any-from_list_any (is_under g r.0) wakers.nodes some in
     let m = under_means g r.0 w.1 w.4 in
-    let listed = list_any-from_Any (λ x. x == w.1) wakers.nodes (w.0, w.1, w.2, w.3, eq-eqb w.1 w.1 refl) in
-    (w.1, m.0, m.1, joined_then r.1.joined (joined_back m.2.joined), or_left (list_any (λ x. x == w.1) wakers.nodes) (is_first g w.1 && not (list_any (is_under g w.1) wakers.nodes)) listed))
+    let listed = list_any-from_Any (λ x. x == w.1) wakers.nodes (w.0, w.1, w.2, w.3, eq-eqb w.1 w.1 refl) in (
+      w.1,
+      m.0,
+      m.1,
+      joined_then r.1.joined (joined_back m.2.joined),
+      or_left (list_any (λ x. x == w.1) wakers.nodes) (is_first g w.1 && not (list_any (is_under g w.1) wakers.nodes)) listed,
+    ))
     (λ none.
-    (r.0, n.0, n.1, r.1.joined, or_right (list_any (λ x. x == r.0) wakers.nodes) is_first_there (and_from (is_first g r.0) (not under) (own_root g v r.0 r.1) (not_from_false under none))))
+    let free = and_from (is_first g r.0) (not under) (own_root g v r.0 r.1) (not_from_false under none) in (
+      r.0,
+      n.0,
+      n.1,
+      r.1.joined,
+      or_right (list_any (λ x. x == r.0) wakers.nodes) alone free,
+    ))
     (cases_Bool under)

@@ -20,7 +20,8 @@ returns-in_err-output-clause-serves g c =
 pub returns-in_err-write_out-clause-serves : goal.returns-in_err-write_out-clause-serves
 returns-in_err-write_out-clause-serves g c =
     let is : c.from_residual-in_err-write_out.result ≡ Err (serve.Write c.in_err-write_out.field-0.0.written) = search rules in λ stored.
-    if_some _ (λ input. IsOfText c.args.options.now.wake (λ s. (verbs_of c.args.protocol).runs c.args.options.now s c.in_ok-output.output.at_limit) input
+    if_some _ (λ input. IsOfText c.args.options.now.wake
+    (λ s. (verbs_of c.args.protocol).runs c.args.options.now s c.in_ok-output.output.at_limit) input
     c.in_ok-output.output.text.items) _
     (λ input out. serves_part (task.Run c.args.protocol c.args.options.now) stored input c.deref.result.now c.in_ok-output.output.text.items
     (g.W.Sink.held c.args.out.now) (g.W.Sink.held c.write_out.new.writer)
@@ -31,7 +32,8 @@ returns-in_err-write_out-clause-serves g c =
 
 pub returns-then-output-clause-serves : goal.returns-then-output-clause-serves
 returns-then-output-clause-serves g c = λ stored.
-    if_some _ (λ input. IsOfText c.args.options.now.wake (λ s. (verbs_of c.args.protocol).runs c.args.options.now s c.in_ok-output.output.at_limit) input
+    if_some _ (λ input. IsOfText c.args.options.now.wake
+    (λ s. (verbs_of c.args.protocol).runs c.args.options.now s c.in_ok-output.output.at_limit) input
     c.in_ok-output.output.text.items) _
     (λ input out.
     let stopped = subst (λ (b : Bool). IsOfText c.args.options.now.wake (λ s.
@@ -44,11 +46,13 @@ returns-then-output-clause-serves g c = λ stored.
 
 pub returns-clause-serves : goal.returns-clause-serves
 returns-clause-serves g c = λ stored.
-    if_some _ (λ input. IsOfText c.args.options.now.wake (λ s. (verbs_of c.args.protocol).runs c.args.options.now s c.in_ok-output.output.at_limit) input
+    if_some _ (λ input. IsOfText c.args.options.now.wake
+    (λ s. (verbs_of c.args.protocol).runs c.args.options.now s c.in_ok-output.output.at_limit) input
     c.in_ok-output.output.text.items) _
     (λ input out. serves_all (task.Run c.args.protocol c.args.options.now) stored input c.deref.result.now c.in_ok-output.output.text.items
     (g.W.Sink.held c.args.out.now) (g.W.Sink.held c.write_out.new.writer) c.deref.ensures.value c.in_ok-write_out.ensures.ok
-    (subst (λ (b : Bool). IsOfText c.args.options.now.wake (λ s. (verbs_of c.args.protocol).runs c.args.options.now s b) input c.in_ok-output.output.text.items)
+    (subst (λ (b : Bool). IsOfText c.args.options.now.wake
+    (λ s. (verbs_of c.args.protocol).runs c.args.options.now s b) input c.in_ok-output.output.text.items)
     c.if-output.false out))
     c.in_ok-output.ensures.output
 
