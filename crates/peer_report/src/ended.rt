@@ -11,8 +11,8 @@ use peer_runs::world::World;
 /// Whether the run of a world has ended. That is so just where no event may happen any more. O(1).
 ///
 /// ```text
-/// while !ended(&world) {
-///     world.play(alloc, world.ready_at(0))?;                // where a run goes on, an event may happen
+/// if !ended(&world) {
+///     let event = world.ready_at(0);                        // where a run goes on, an event may happen
 /// }
 /// ```
 pub fn ended<P: Ends>(world: &World<P>) -> bool

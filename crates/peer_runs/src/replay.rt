@@ -18,7 +18,7 @@ use std::alloc::Global;
 /// run under the wake set has no fault but lack of memory.
 ///
 /// ```text
-/// let events = read_trace(alloc, &text)?;
+/// let events = read_trace_of(alloc, Protocol::Echo, &text)?;
 /// let world = replay::<Echo>(alloc, graph, WakeSet::All, &events)?;
 /// // world.net().trace() is these events; an Err hands the graph back, and names the first that isn't lawful
 /// ```

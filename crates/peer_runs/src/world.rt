@@ -20,9 +20,10 @@ use std::marker::Model;
 ///
 /// ```text
 /// let mut world = World::<Echo>::open(alloc, graph, WakeSet::All)?;   // an Err hands the graph back
-/// while world.ready_count() > 0 {
-///     world.play(alloc, world.ready_at(0))?;                          // the first of those that may happen
+/// if world.is_ready(Event::Wake(1)) {                                 // so it is: a sleeper may wake
+///     world.play(alloc, Event::Wake(1))?;
 /// }
+/// // world.net().trace() is [Event::Wake(1)]; ready_at(0) is the first of the ready_count() events that may happen now
 /// ```
 #[derive(Drop)]
 pub struct World<P: Protocol> {
