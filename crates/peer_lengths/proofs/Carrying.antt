@@ -1,6 +1,9 @@
 -- The numbers of a run, one event more.
-use Rattle.std.proofs.Common.{◌≡◌, ℕ, suc, ◌<◌, ◌≤◌, ◌-◌, ◌^◌, Bool, List, [], ◌∷◌, ◌++◌, length, slice_index, sym, ◌∙◌, ap, ap₂, subst, subst₂, arith, add-one}
+use Rattle.std.proofs.Common.{◌≡◌, ℕ, suc, ◌<◌, ◌≤◌, ◌-◌, ◌^◌, Bool, false, List, [], ◌∷◌, ◌++◌, length, slice_index, sym, ◌∙◌, ap, ap₂, subst, subst₂, arith, add-one}
 use Rattle.std.specs.List.{All}
+use Rattle.std.specs.Prelude.{Result, Ok, Err, IfOk, OnOk}
+use Rattle.std.specs.declared.alloc.AllocError.{AllocError}
+use Rattle.std.specs.Result.{is_err}
 use Rattle.std.proofs.lemmas.Bool.{and_parts}
 use Rattle.ghs_graph.specs.Graph.{Shape}
 use Rattle.peer_network.specs.declared.event.Event.{Event}
@@ -18,15 +21,31 @@ use Rattle.peer_machine.specs.Protocol.{IsBoundedBy, FitsGraphs}
 use Rattle.peer_net.specs.NetState.{NetState, network, net_of, is_deferred, IsLawful}
 use Rattle.peer_lengths.specs.Chain.{numbers_then, numbers_of, longest_chain}
 use Rattle.peer_lengths.specs.Kept.{AreNumbersOf}
+use Rattle.peer_lengths.specs.Sends.{bits_sent, longest_sent}
+use Rattle.peer_lengths.specs.Lengths.{AreLengths, IsMeterOf, MeterState}
+use Rattle.peer_lengths.specs.declared.lengths.Lengths.{Lengths}
 use Rattle.peer_lengths.proofs.lemmas.Following.{followed_more}
 use Rattle.peer_lengths.proofs.Numbering.{run_within}
 use Rattle.peer_lengths.proofs.Playing.{Played, before, count_more, few, high, low, on_ports, sends_are}
+
+-- what holds unless there is an error, where there is none
+pub if_carried : {A E P : Type 0} (x : Result A E) → is_err x ≡ false → OnOk x P → P
+if_carried (Ok y) h p = p
+if_carried (Err e) h p = cc
 
 module _ {S M : Type 0} (r : Rules S M) where
   -- where an event takes a message, its port is kept
   pub place_of : (s : NetState) (k : Kept) (e : Event) → Fits s.graph k → IsLawful r s e → HasPlaceOf k e
   place_of s k (Wake v) f l = tt
   place_of s k (Take v p) f l = place_at s.graph k v p f (at_of (network s) v p (and_parts _ _ l).0)
+
+  -- what a meter tells of its run
+  pub if_told : {C : Type 0} {is_scale : Shape → C → Type 0} (g : Shape) (es : List Event) (m : MeterState C) (x : Result Lengths AllocError) →
+      IsMeterOf r is_scale g es m →
+      IfOk x (λ l. (h : Shape) (fs : List Event) → IsMeterOf r is_scale h fs m → AreLengths r h fs l) →
+      IfOk x (λ l. l.chain ≡ longest_chain r (network_of g) es) × IfOk x (λ l. l.bits ≡ bits_sent r g es) × IfOk x (λ l. l.longest ≡ longest_sent r g es)
+  if_told g es m (Ok l) is told = let are = told g es is in (are.chain, are.bits, are.longest)
+  if_told g es m (Err e) is told = (tt, tt, tt)
 
   -- no event, no number
   pub begun_are : (g : Shape) (k : Kept) → Fits g k → seen k ≡ no_chains → AreNumbersOf r g [] k

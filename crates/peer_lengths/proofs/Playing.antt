@@ -19,6 +19,7 @@ use Rattle.peer_machine.specs.Steps.{Happens, Woke, Took}
 use Rattle.peer_machine.proofs.lemmas.Events.{happening}
 use Rattle.peer_machine.proofs.lemmas.Runs.{both_some, run_splits, run_more, net_after_is, after_is_net}
 use Rattle.peer_net.specs.NetState.{NetState, network, net_of, delivery, work_at, AreSends, IsLawful}
+use Rattle.peer_runs.specs.Following.{HasHappened}
 use Rattle.peer_lengths.specs.Sends.{sends_of, sends_at, sent_then, all_sent}
 use Rattle.peer_lengths.proofs.lemmas.Following.{followed_more}
 use Rattle.peer_lengths.proofs.lemmas.Sending.{event_sends}
@@ -76,6 +77,20 @@ module _ {S M : Type 0} (r : Rules S M) where
     pub run : IsRun r (network s) s.trace
     pub event : happens r (network s) (net_of r s) e ≡ Some y
     pub sends : AreSends r s e ss
+
+  -- and so is one that has happened
+  pub played_of : (s t : NetState) (e : Event) (ss : Outgoing M) → IsGraph t.graph → IsRun r (network t) t.trace → HasHappened r s e t ss →
+      Played s e (net_of r t) ss
+  played_of s t e ss graph is_run h =
+      let n = network s in
+      let whole : IsRun r n (s.trace ++ e ∷ []) =
+      subst (λ (es : List Event). IsRun r n es) h.trace (subst (λ (g : Shape). IsRun r (network_of g) t.trace) h.graph is_run) in
+      record {
+        graph = subst (λ (g : Shape). IsGraph g) h.graph graph;
+        run = run_splits r n s.trace (e ∷ []) (opening r n) whole.0 whole.1 (λ x here _. (x, here));
+        event = h.event;
+        sends = h.sends;
+      }
 
   module _ (s : NetState) (e : Event) (y : Net S M) (ss : Outgoing M) (played : Played s e y ss) where
     pub sends_are : ss ≡ sends_at r (net_of r s) e

@@ -2,4 +2,5 @@
 pub mod Sends
 pub mod Chain
 pub mod Kept
+pub mod Lengths
 pub mod Laws

@@ -5,13 +5,12 @@ ghost use Rattle.peer_machine.specs.Run.{IsRun};
 ghost use Rattle.peer_lengths.specs.Sends.{bits_sent, longest_sent};
 ghost use Rattle.peer_lengths.specs.Chain.{longest_chain};
 
-use crate::numbers::play;
-use crate::sent::{Sent, measure};
+use crate::meter::Meter;
 use ghs_graph::graph::Graph;
-use peer_chains::chains::Chains;
 use peer_machine::event::Event;
 use peer_machine::measured::Measured;
 use peer_net::net::Net;
+use peer_runs::follower::Follower;
 use std::alloc::{AllocError, Global};
 
 /// How long a run is, in messages and in bits.
@@ -46,17 +45,12 @@ pub fn lengths_of<P: Measured>(
         Ok(net) => net,
         Err((_, error)) => return Err(error),
     };
-    let mut chains = Chains::none(alloc, graph)?;
-    let mut sent = Sent::none();
-    let scale = P::scale_of(graph);
+    let mut meter = Meter::<P>::none(alloc, graph)?;
     for event in events {
         let _ = net.trace();
-        let sends = play(alloc, &mut net, &mut chains, *event)?;
-        sent.add(measure::<P>(scale, &sends));
+        let seen = meter.look(&net, *event)?;
+        let sends = net.play(alloc, *event)?;
+        meter.follow(&net, *event, seen, &sends);
     }
-    Ok(Lengths {
-        chain: chains.longest(),
-        bits: sent.bits,
-        longest: sent.longest,
-    })
+    meter.lengths()
 }

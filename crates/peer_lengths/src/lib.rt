@@ -12,5 +12,5 @@
 
 pub mod laws;
 pub mod lengths;
-mod numbers;
+pub mod meter;
 mod sent;

@@ -2,6 +2,7 @@
 pub mod Lawful
 pub mod WorldState
 pub mod Upkeep
+pub mod Following
 pub mod Picks
 pub mod Runs
 pub mod Replays

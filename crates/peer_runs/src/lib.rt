@@ -13,6 +13,7 @@
 #![tactic(auto)]
 
 pub mod fault;
+pub mod follower;
 pub mod laws;
 pub mod replay;
 pub mod run;

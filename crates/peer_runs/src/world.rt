@@ -5,6 +5,7 @@ ghost use Rattle.peer_machine.specs.Run.{IsRunUnder};
 ghost use Rattle.peer_net.specs.NetState.{network};
 ghost use Rattle.peer_runs.specs.WorldState.{wakers, is_ready, ready_events, HasPlayed};
 
+use crate::follower::Follower;
 use crate::upkeep::{mark_changed, may_happen, open_index};
 use ghs_graph::graph::Graph;
 use peer_index::index::Index;
@@ -125,8 +126,28 @@ impl<P: Protocol> World<P> {
         ensures played { OnOk result (HasPlayed P.rules self.old placed.event self.new) }
         ensures err { OnErr result (self.new ≡ self.old) }
     {
+        self.play_followed(alloc, placed, &mut ())
+    }
+
+    /// The same, and a follower follows the event. It may refuse the event too; what it keeps is of this world's run at any
+    /// rate.
+    pub fn play_followed<F: Follower<P>>(
+        &mut self,
+        alloc: Global,
+        placed: Placed,
+        kept: &mut F,
+    ) -> Result<(), AllocError>
+        requires placed { IsPlaced (network self.old.net) placed }
+        requires ready { is_ready P.rules self.old placed.event ≡ true }
+        requires kept { F.is_of self.old.net.graph self.old.net.trace kept.old }
+        ensures played { OnOk result (HasPlayed P.rules self.old placed.event self.new) }
+        ensures err { OnErr result (self.new ≡ self.old) }
+        ensures kept { F.is_of self.new.net.graph self.new.net.trace kept.new }
+    {
+        let seen = kept.look(&self.net, placed.event)?;
         let sends = self.net.play_placed(alloc, placed)?;
         mark_changed(&mut self.index, &self.net, self.wake, placed, &sends);
+        kept.follow(&self.net, placed.event, seen, &sends);
         Ok(())
     }
 

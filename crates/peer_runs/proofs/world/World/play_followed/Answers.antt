@@ -2,7 +2,7 @@ use Rattle.peer_net.specs.NetState.{network, net_of}
 use Rattle.peer_network.specs.Wakes.{may_wake}
 use Rattle.peer_runs.proofs.Lawful.{lawful_parts}
 use Rattle.peer_runs.proofs.Keeping.{stale, played, still}
-use Rattle.peer_runs.proofs.world.World.play_placed.Goals as goal
+use Rattle.peer_runs.proofs.world.World.play_followed.Goals as goal
 
 pub play_placed-requires : goal.play_placed-requires
 play_placed-requires g c =
@@ -23,6 +23,26 @@ mark_changed-requires g c = record {
       (rw (← c.self.view_is) at c.requires.ready) c.play_placed.ensures.graph c.in_ok-sends.sends.items c.in_ok-sends.ensures.event
       c.in_ok-sends.ensures.sends);
 }
+
+pub follow-requires : goal.follow-requires
+follow-requires g c =
+    let r = g.P.Protocol.rules in
+    let n = c.self.inside.net in
+    record {
+      before = n;
+      happened =
+          record {
+            lawful =
+                (lawful_parts r (may_wake n.graph c.self.inside.wake) (network n) (net_of r n) c.args.placed.event
+                (rw (← c.self.view_is) at c.requires.ready)).1;
+            graph = c.play_placed.ensures.graph;
+            trace = c.in_ok-sends.ensures.trace;
+            event = c.in_ok-sends.ensures.event;
+            sends = rw c.deref-2.ensures.value c.in_ok-sends.ensures.sends;
+          };
+      seen = c.in_ok-seen.ensures;
+      kept = rw (← c.self.view_is) at c.requires.kept;
+    }
 
 pub invariant_of-self : goal.invariant_of-self
 invariant_of-self g c =

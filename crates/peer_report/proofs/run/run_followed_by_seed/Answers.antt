@@ -3,11 +3,11 @@ use Rattle.ghs_graph.specs.Graph.{IsGraph}
 use Rattle.peer_net.specs.NetState.{NetState}
 use Rattle.peer_runs.specs.declared.fault.RunFault.TheVariants.{TurnLimit}
 use Rattle.peer_report.proofs.Ran.{ended_by, stopped_by}
-use Rattle.peer_report.proofs.run.run_by_seed.Goals as goal
+use Rattle.peer_report.proofs.run.run_followed_by_seed.Goals as goal
 
 pub returns-in-Ok-end : goal.returns-in-Ok-end
 returns-in-Ok-end g c =
-    let ran = c.run_seeded-end in
+    let ran = c.run_followed-end in
     let is : ran.result ≡ Ok tt = c.in-Ok-end.is in
     ended_by g.P.Protocol.rules g.P.Ends.has_ended c.args.seed c.args.wake c.args.turns c.args.graph c.in-Ok.world ran.new.world _ _
     c.in-Ok.ensures.graph c.in-Ok.ensures.trace
@@ -16,7 +16,7 @@ returns-in-Ok-end g c =
 
 pub returns-in-Err-TurnLimit : goal.returns-in-Err-TurnLimit
 returns-in-Err-TurnLimit g c =
-    let ran = c.run_seeded-end in
+    let ran = c.run_followed-end in
     let is : ran.result ≡ Err TurnLimit = search rules in
     stopped_by g.P.Protocol.rules g.P.Ends.has_ended c.args.seed c.args.wake c.args.turns c.args.graph c.in-Ok.world ran.new.world _ _
     c.in-Ok.ensures.graph c.in-Ok.ensures.trace

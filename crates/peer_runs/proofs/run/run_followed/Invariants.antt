@@ -1,9 +1,12 @@
 use Rattle.std.proofs.Common.{◌-◌, length}
 use Rattle.peer_runs.specs.Runs.{HasRun}
-use Rattle.peer_runs.proofs.run.run_seeded.Given as goal
+use Rattle.peer_runs.proofs.run.run_followed.Given as goal
 
 abbrev pub invariant-events : goal.invariant-events
-invariant-events g l = HasRun g.P.Protocol.rules l.turns l.fn.world l.world l.fn.schedule l.schedule
+invariant-events g l = record {
+  run : HasRun g.P.Protocol.rules l.turns l.fn.world l.world l.fn.schedule l.schedule;
+  kept : g.F.Follower.is_of l.world.net.graph l.world.net.trace l.kept;
+}
 
 abbrev pub decreases-events : goal.decreases-events
 decreases-events g l = l.turns - length l.world.net.trace
