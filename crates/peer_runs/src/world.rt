@@ -2,7 +2,7 @@
 ghost use Rattle.std.specs.Prelude.{◌≡◌, ◌<◌, [], length, slice_get, IfOk, IfErr, OnOk, OnErr, Some, true};
 ghost use Rattle.peer_index.specs.Places.{IsPlaced};
 ghost use Rattle.peer_machine.specs.Run.{IsRunUnder};
-ghost use Rattle.peer_net.specs.NetState.{network};
+ghost use Rattle.peer_net.specs.NetState.{AreSends, network};
 ghost use Rattle.peer_runs.specs.WorldState.{wakers, is_ready, ready_events, HasPlayed};
 
 use crate::follower::Follower;
@@ -106,6 +106,24 @@ impl<P: Protocol> World<P> {
     {
         let _ = self.index.count();
         self.index.kth_placed(self.net.graph(), k as u32)
+    }
+
+    /// Plays a placed event, as `play_placed` does, and answers the messages that went out, each with its port, in the order
+    /// of sending.
+    pub fn play_answered(
+        &mut self,
+        alloc: Global,
+        placed: Placed,
+    ) -> Result<Vec<(u32, P::Message)>, AllocError>
+        requires placed { IsPlaced (network self.old.net) placed }
+        requires ready { is_ready P.rules self.old placed.event ≡ true }
+        ensures played { OnOk result (HasPlayed P.rules self.old placed.event self.new) }
+        ensures sends { IfOk result (λ s. AreSends P.rules self.old.net placed.event s.items) }
+        ensures err { OnErr result (self.new ≡ self.old) }
+    {
+        let sends = self.net.play_placed(alloc, placed)?;
+        mark_changed(&mut self.index, &self.net, self.wake, placed, &sends);
+        Ok(sends)
     }
 
     /// Plays an event. Beside the reaction that takes O(1) for each message that is sent. If an allocation is refused the
