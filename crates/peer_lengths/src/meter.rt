@@ -1,5 +1,5 @@
 //! How long a run is, kept from event to event.
-ghost use Rattle.std.specs.Prelude.{◌≡◌, [], IfOk, List, OnOk};
+ghost use Rattle.std.specs.Prelude.{◌≡◌, false, [], IfOk, List, OnOk};
 ghost use Rattle.ghs_graph.specs.Graph.{Shape};
 ghost use Rattle.peer_network.specs.declared.event.Event.{Event as Happening};
 ghost use Rattle.peer_runs.specs.Following.{HasHappened};
@@ -41,7 +41,8 @@ impl<P: Measured> Model for Meter<P> {
 impl<P: Measured> Meter<P> {
     /// That of a run that has no event yet. O(N + E). Refusal: out of memory.
     pub fn none(alloc: Global, graph: &Graph) -> Result<Meter<P>, AllocError>
-        ensures { IfOk result (λ m. IsMeterOf P.rules P.is_of graph.now [] m) }
+        ensures meter { IfOk result (λ m. IsMeterOf P.rules P.is_of graph.now [] m) }
+        ensures kept { IfOk result (λ m. m.lost ≡ false) }
     {
         Ok(Meter {
             chains: Chains::none(alloc, graph)?,

@@ -22,8 +22,8 @@ use Rattle.peer_net.specs.NetState.{NetState, network, net_of, AreSends}
 use Rattle.peer_runs.specs.Lawful.{is_lawful_under}
 use Rattle.peer_runs.specs.WorldState.{lawful_in, IsWorld}
 use Rattle.peer_runs.specs.Upkeep.{changed, HasArrived, IsStale}
-use Rattle.peer_runs.proofs.Lawful.{lawful_parts, lawful_place}
-use Rattle.peer_runs.proofs.Changing.{Done, done_of, same_else, have_arrived, arrivals, next_arrival}
+use Rattle.peer_runs.proofs.lemmas.Lawful.{lawful_parts, lawful_place}
+use Rattle.peer_runs.proofs.lemmas.Changing.{Done, done_of, same_else, have_arrived, arrivals, next_arrival}
 
 -- the same graph and the same trace are the same net
 pub same_net : (s t : NetState) → s.graph ≡ t.graph → s.trace ≡ t.trace → s ≡ t

@@ -21,7 +21,7 @@ use Rattle.peer_net.specs.NetState.{network}
 use Rattle.peer_runs.specs.Lawful.{is_lawful_under}
 use Rattle.peer_runs.specs.WorldState.{WorldState, wakers, is_ready, HasPlayed}
 use Rattle.peer_runs.specs.Replays.{HasReplayed, IsFirstUnlawful}
-use Rattle.peer_runs.proofs.Lawful.{lawful_from}
+use Rattle.peer_runs.proofs.lemmas.Lawful.{lawful_from}
 
 -- one event more
 pub replayed_more : {S M : Type 0} (r : Rules S M) (g : Shape) (wake : WakeSet) (es : List Event) (i : ℕ) (d : Event) (s new : WorldState) →

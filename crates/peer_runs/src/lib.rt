@@ -4,7 +4,8 @@
 //! themselves (`World::net`: `run`), and `is_ready`, `ready_count` and `ready_at` answer for exactly the events that may
 //! happen. `World::play` makes exactly the one event, or leaves all as it was (`played`, `err`). `run_seeded` makes exactly
 //! the events that its schedule picks, each among those that are lawful at that moment (`run`, `whole`), until none is
-//! (`over`) or the events have come to the turns (`limit`, `at_limit`); each seed has one run (`law_seeded_run`). Memory aside,
+//! (`over`) or the events have come to the turns (`limit`, `at_limit`); each seed has one run (`law_seeded_run`). `run_followed`
+//! makes the same run, and a `Follower` keeps something of it from event to event (`kept`). Memory aside,
 //! `replay` gives the world after a list of events exactly where it is a run, and else names the first that isn't lawful
 //! (`ok`, `fault`).
 //!

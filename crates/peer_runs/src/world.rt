@@ -144,21 +144,23 @@ impl<P: Protocol> World<P> {
         ensures played { OnOk result (HasPlayed P.rules self.old placed.event self.new) }
         ensures err { OnErr result (self.new ≡ self.old) }
     {
-        self.play_followed(alloc, placed, &mut ())
+        self.play_followed(alloc, placed, &mut ())?;
+        Ok(())
     }
 
     /// The same, and a follower follows the event. It may refuse the event too; what it keeps is of this world's run at any
-    /// rate.
+    /// rate. Answers the messages that went out, each with its port.
     pub fn play_followed<F: Follower<P>>(
         &mut self,
         alloc: Global,
         placed: Placed,
         kept: &mut F,
-    ) -> Result<(), AllocError>
+    ) -> Result<Vec<(u32, P::Message)>, AllocError>
         requires placed { IsPlaced (network self.old.net) placed }
         requires ready { is_ready P.rules self.old placed.event ≡ true }
         requires kept { F.is_of self.old.net.graph self.old.net.trace kept.old }
         ensures played { OnOk result (HasPlayed P.rules self.old placed.event self.new) }
+        ensures sends { IfOk result (λ s. AreSends P.rules self.old.net placed.event s.items) }
         ensures err { OnErr result (self.new ≡ self.old) }
         ensures kept { F.is_of self.new.net.graph self.new.net.trace kept.new }
     {
@@ -166,7 +168,7 @@ impl<P: Protocol> World<P> {
         let sends = self.net.play_placed(alloc, placed)?;
         mark_changed(&mut self.index, &self.net, self.wake, placed, &sends);
         kept.follow(&self.net, placed.event, seen, &sends);
-        Ok(())
+        Ok(sends)
     }
 
     /// The graph, when the world is done with.

@@ -5,9 +5,7 @@ use Rattle.ghs_graph.specs.Graph.{Shape}
 use Rattle.ghs_graph.specs.Links.{total_weight}
 use Rattle.peer_network.specs.declared.event.Event.{Event}
 use Rattle.peer_network.specs.Network.{network_of}
-use Rattle.peer_lengths.specs.Chain.{longest_chain}
-use Rattle.peer_lengths.specs.Sends.{bits_sent, longest_sent}
-use Rattle.peer_lengths.specs.declared.lengths.Lengths.{Lengths}
+use Rattle.peer_lengths.specs.Lengths.{AreLengths}
 use Rattle.peer_machine.specs.Branches.{AreBranches}
 use Rattle.peer_machine.specs.Ledger.{in_all, waiting}
 use Rattle.peer_machine.specs.Net.{Net}
@@ -42,12 +40,6 @@ module _ {S M : Type 0} (r : Rules S M) where
     pub all : AreBranches is_branch (network_of g) w branches
     pub sum : weight ≡ Some (total_weight branches)
 
-  -- how long the run of some events is: its longest chain, its bits, and its longest message
-  pub record AreLengths (g : Shape) (es : List Event) (l : Lengths) : Type 0 where
-    pub chain : l.chain ≡ longest_chain r (network_of g) es
-    pub bits : l.bits ≡ bits_sent r g es
-    pub longest : l.longest ≡ longest_sent r g es
-
   -- the figures of the net after some events, and how long the run of these events is; it is told of no levels and fragments
   pub record AreFigures (bound : Shape → ℕ) (is_branch : S → ℕ → Bool) (has_ended : Shape → Net S M → Type 0) (g : Shape) (es : List Event)
       (f : Figures) : Type 0 where
@@ -59,5 +51,5 @@ module _ {S M : Type 0} (r : Rules S M) where
     pub fragments : f.fragments ≡ None
     pub weight : IsWeight is_branch g (net_after r g es) f.weight
     pub ended : (f.ended ≡ true) ↔ has_ended g (net_after r g es)
-    pub lengths : AreLengths g es f.lengths
+    pub lengths : AreLengths r g es f.lengths
     pub room : LeavesRoom f

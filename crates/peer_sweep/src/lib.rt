@@ -8,8 +8,8 @@
 //! comes from the names of kinds (`Table::of`: `layout_of`). Of each protocol the bound is the graph's (`law_bound_is_fixed`).
 //!
 //! If allocation fails the figures that there were stay (`err`). A summary is of up to 2^32 runs. Kinds of messages behind the
-//! eighth have no column. By `ByRules` each run is played twice, the second time for its lengths. `peer_report` makes these
-//! runs, `ghs_sweep` those of GHS, and `ghs_chart` draws figures.
+//! eighth have no column. By `ByRules` each run is measured while it is made. `peer_report` makes these runs, `ghs_sweep`
+//! those of GHS, and `ghs_chart` draws figures.
 #![tactic(auto)]
 
 pub mod column;

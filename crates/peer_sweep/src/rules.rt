@@ -1,4 +1,5 @@
 //! Runs of any protocol that finds a tree, has words and whose messages have lengths.
+ghost use Rattle.peer_lengths.specs.Lengths.{AreLengths};
 ghost use Rattle.peer_sweep.specs.Figures.{AreFigures};
 ghost use Rattle.peer_sweep.specs.Runs.{AreFiguresOf, is_bound};
 ghost use Rattle.std.specs.Prelude.{◌≡◌, ◌<◌, IfOk, length, slice_index};
@@ -10,14 +11,15 @@ use crate::swept::Swept;
 use ghs_graph::graph::Graph;
 use ghs_report::weight::total_weight;
 use peer_lengths::laws::law_bits;
-use peer_lengths::lengths::lengths_of;
+use peer_lengths::lengths::Lengths;
+use peer_lengths::meter::Meter;
 use peer_machine::ends::FindsTree;
 use peer_machine::measured::Measured;
 use peer_net::ledger::in_total;
 use peer_net::net::Net;
 use peer_report::branches::branches;
 use peer_report::ended::net_ended;
-use peer_report::run::run_by_seed;
+use peer_report::run::run_followed_by_seed;
 use peer_words::spoken::Spoken;
 use peer_words::value::Word;
 use std::alloc::{AllocError, Global};
@@ -84,25 +86,34 @@ fn seeded<P: FindsTree + Spoken + Measured>(
     ensures { IfOk result (λ f. AreFiguresOf P.rules P.bound P.is_branch P.has_ended graph.now setup seed f) }
 {
     let copy = graph.copy(alloc)?;
-    let (world, _) = run_by_seed::<P>(alloc, copy, setup.wake, seed, setup.turns)?;
-    figures_of(alloc, world.net())
+    let mut meter = Meter::<P>::none(alloc, graph)?;
+    let (world, _) = run_followed_by_seed::<P, Meter<P>>(
+        alloc,
+        copy,
+        setup.wake,
+        seed,
+        setup.turns,
+        &mut meter,
+    )?;
+    figures_of(alloc, world.net(), meter.lengths()?)
 }
 
-/// The figures of a net. Its events are played once more for the run's lengths. Refusal: out of memory.
+/// The figures of a net whose run has these lengths. Refusal: out of memory.
 ///
 /// ```text
-/// let figures = figures_of(alloc, world.net())?;
+/// let figures = figures_of(alloc, world.net(), meter.lengths()?)?;
 /// // once a run of two nodes and a link of weight 5 has ended, by Borůvka in step: figures.kinds begins with 2, 1, 0, 1, 0
 /// ```
 pub fn figures_of<P: FindsTree + Measured>(
     alloc: Global,
     net: &Net<P>,
+    lengths: Lengths,
 ) -> Result<Figures, AllocError>
+    requires { AreLengths P.rules net.now.graph net.now.trace lengths }
     ensures { IfOk result (λ f. AreFigures P.rules P.bound P.is_branch P.has_ended net.now.graph net.now.trace f) }
 {
     law_bits::<P::Node, P::Message>();
     let graph = net.graph();
-    let lengths = lengths_of::<P>(alloc, graph, net.trace())?;
     let tree = branches(alloc, net)?;
     let most = P::bound_of(graph);
     let ledger = net.ledger();

@@ -1,5 +1,4 @@
-use Rattle.std.proofs.Common.{◌∙◌, List, [], arith, subst, subst₂, sym}
-use Rattle.std.specs.List.{slice_index_or}
+use Rattle.std.proofs.Common.{◌∙◌, List, arith, subst₂, sym}
 use Rattle.std.proofs.lemmas.List.{take_all}
 use Rattle.ghs_graph.specs.Graph.{Shape}
 use Rattle.peer_network.specs.declared.event.Event.{Event}
@@ -18,7 +17,7 @@ loop-event-init g c =
       trace = c.in-Ok.ensures.trace;
       meter =
           subst₂ (λ (h : Shape) (es : List Event). IsMeterOf r g.P.Measured.is_of h es c.in_ok-meter.meter) (sym graph) (sym c.in-Ok.ensures.trace)
-          c.in_ok-meter.ensures;
+          c.in_ok-meter.ensures.meter;
     }
 
 pub look-requires : goal.look-requires

@@ -3,7 +3,7 @@ use Rattle.peer_index.specs.Index.{IsIndexBut}
 use Rattle.peer_machine.specs.Net.{event_node}
 use Rattle.peer_net.specs.NetState.{network}
 use Rattle.peer_runs.specs.WorldState.{lawful_in}
-use Rattle.peer_runs.proofs.Changing.{arrivals}
+use Rattle.peer_runs.proofs.lemmas.Changing.{arrivals}
 use Rattle.peer_runs.proofs.upkeep.mark_changed.Given as goal
 
 abbrev pub invariant-loop-port : goal.invariant-loop-port

@@ -9,10 +9,6 @@ use Rattle.peer_lengths.specs.Sends.{bits_sent, longest_sent}
 use Rattle.peer_sweep.proofs.Ruled.{few_bits}
 use Rattle.peer_sweep.proofs.rules.figures_of.Goals as goal
 
-pub lengths_of-requires : goal.lengths_of-requires
-lengths_of-requires g c =
-    record { run = rw c.graph-graph.ensures (rw c.trace.ensures.trace c.trace.ensures.run) }
-
 pub returns : goal.returns
 returns g c =
     let r = g.P.Protocol.rules in
@@ -24,19 +20,13 @@ returns g c =
     c.in_total-total.ensures ∙ ap (λ n. sum_below n (λ k. slice_index c.ledger-ledger.result.sent.now k)) ledger.counts.sent_kinds in
     let within : in_all r (λ k. slice_index c.ledger-ledger.result.sent.now k) ≤ g.P.Protocol.bound gr = ledger.bound in
     let longer = ledger.counts.sent_kinds in
-    let graph = c.graph-graph.ensures in
-    let trace = c.trace.ensures.trace in
-    let here = c.in_ok-lengths.ensures in
-    let chain : c.in_ok-lengths.lengths.chain ≡ longest_chain r (network_of gr) es =
-    here.chain ∙ ap (λ (s : Shape). longest_chain r (network_of s) c.trace.result.now) graph ∙ ap (longest_chain r (network_of gr)) trace in
-    let bits : c.in_ok-lengths.lengths.bits ≡ bits_sent r gr es =
-    here.bits ∙ ap (λ (s : Shape). bits_sent r s c.trace.result.now) graph ∙ ap (bits_sent r gr) trace in
-    let longest : c.in_ok-lengths.lengths.longest ≡ longest_sent r gr es =
-    here.longest ∙ ap (λ (s : Shape). longest_sent r s c.trace.result.now) graph ∙ ap (longest_sent r gr) trace in
+    let are = c.requires in
+    let bits = are.bits in
+    let longest = are.longest in
     let run = c.trace.ensures.run in
     let some = g.met.P.Protocol.is_bounded gr run.0 (record { graph = c.trace.ensures.graph; events = es; run = run.1 }) in
     let fits = g.met.P.Protocol.bound_fits gr c.trace.ensures.graph in
-    let short : c.in_ok-lengths.lengths.longest < 2 ^ 32 = search rules in
+    let short : c.args.lengths.longest < 2 ^ 32 = search rules in
     let few = few_bits (bits_sent r gr es) (in_all r run.0.sent) (longest_sent r gr es) (g.P.Protocol.bound gr)
     (c.law_bits.ensures r g.met.P.Protocol.has_kinds gr es run.0 run.1) some fits (omega (arith, short, longest)) in
     record {
@@ -59,6 +49,6 @@ returns g c =
         sum = search rules;
       };
       ended = c.net_ended.ensures;
-      lengths = record { chain = chain; bits = bits; longest = longest };
+      lengths = are;
       room = record { weight = c.total_weight.ensures.small; bits = omega (arith, bits, few) };
     }

@@ -3,8 +3,8 @@ use Rattle.peer_lengths.proofs.Carrying.{begun_are}
 use Rattle.peer_lengths.proofs.Measuring.{none_measured}
 use Rattle.peer_lengths.proofs.meter.Meter.none.Goals as goal
 
-pub returns : goal.returns
-returns g c =
+pub returns-clause-meter : goal.returns-clause-meter
+returns-clause-meter g c =
     let r = g.P.Protocol.rules in
     record {
       scale = c.scale_of.ensures;

@@ -1,6 +1,6 @@
 use Rattle.peer_net.specs.NetState.{network, net_of}
 use Rattle.peer_network.specs.Wakes.{may_wake}
-use Rattle.peer_runs.proofs.Lawful.{lawful_parts}
+use Rattle.peer_runs.proofs.lemmas.Lawful.{lawful_parts}
 use Rattle.peer_runs.proofs.Keeping.{stale, played, still}
 use Rattle.peer_runs.proofs.world.World.play_followed.Goals as goal
 
@@ -54,3 +54,6 @@ invariant_of-self-2 g c =
     played g.P.Protocol.rules c.self.inside.net c.play_placed.new.self c.self.inside.wake c.args.placed.event c.self.inside.index c.self.invariant
     (rw (← c.self.view_is) at c.requires.ready) c.play_placed.ensures.graph c.mark_changed.new.index c.in_ok-sends.ensures.trace
     c.mark_changed.ensures
+
+pub returns-clause-sends : goal.returns-clause-sends
+returns-clause-sends g c = rw (← c.self.view_is) c.in_ok-sends.ensures.sends
