@@ -1,8 +1,8 @@
 -- Runs of seeds, one list behind another.
-use Rattle.std.proofs.Common.{◌≡◌, ℕ, zero, suc, ◌+◌, ◌/◌, ◌<◌, ◌≤◌, ◌∷◌, List, [], ◌++◌, append-nil, append_assoc, arith, length, length-append, subst, sym, Vec, Global}
+use Rattle.std.proofs.Common.{◌≡◌, ℕ, zero, suc, ◌+◌, ◌*◌, ◌/◌, ◌<◌, ◌≤◌, ◌∷◌, List, [], ◌++◌, append-nil, append_assoc, arith, length, length-append, subst, sym, Vec, Global}
 use Rattle.std.specs.Prelude.{Result, Ok, IfOk}
 use Rattle.std.specs.declared.alloc.AllocError.{AllocError}
-use Rattle.std.proofs.Math.Nat.{div-mul-le_self, le-mul_of_pos_right, mul-suc}
+use Rattle.std.proofs.Math.Nat.{div-mul-le_self, le-mul_of_pos_right, lt-mul-div-succ, mul-le-mul_left, mul-suc}
 use Rattle.ghs_graph.specs.Graph.{Shape}
 use Rattle.peer_sweep.specs.declared.figures.Figures.{Figures}
 use Rattle.peer_sweep.specs.declared.setup.Setup.{Setup}
@@ -64,3 +64,10 @@ part_less n (suc k) some two =
     let product = mul-suc (n / suc k) k in
     let grows = le-mul_of_pos_right {m = k} (n / suc k) (omega (arith, two)) in
     omega (arith, some, most, product, grows)
+
+-- the greater of that part and 1: so many for each leave fewer than there are threads
+pub part_covers : (n t share : ℕ) → 2 ≤ t → n / t ≤ share → n < t * (share + 1)
+part_covers n t share two le =
+    let part = lt-mul-div-succ n {b = t} (omega (arith, two)) in
+    let grows = mul-le-mul_left {m = n / t + 1} {n = share + 1} t (omega (arith, le)) in
+    omega (arith, part, grows)

@@ -1,6 +1,6 @@
 //! The runs of many seeds, side by side, by any protocol.
 ghost use Rattle.peer_sweep.specs.Sweep.{AreRuns, HasTurns};
-ghost use Rattle.std.specs.Prelude.{◌≡◌, ◌+◌, ◌-◌, ◌<◌, ◌≤◌, ◌^◌, IfOk, OnErr, length};
+ghost use Rattle.std.specs.Prelude.{◌≡◌, ◌+◌, ◌-◌, ◌*◌, ◌<◌, ◌≤◌, ◌^◌, IfOk, OnErr, length};
 ghost use Rattle.std.specs.Thread.{IsSync};
 
 use crate::figures::Figures;
@@ -90,11 +90,15 @@ pub(crate) fn runs_by<P: Swept + Sync, R: Threads + Sync>(
     Ok(runs)
 }
 
-/// How many of the seeds one of the threads takes: its part, and one at least; fewer than all.
+/// How many of the seeds one of the threads takes: its part, rounded down, and one at least; some are left for the others. A
+/// share for each thread leaves fewer seeds than there are threads. Where it is more than one seed, there are as many.
 pub fn share_of(count: u64, threads: u32) -> u64
     requires count { 2 ≤ count }
     requires threads { 2 ≤ threads }
-    ensures { result < count }
+    ensures some { 1 ≤ result }
+    ensures left { result < count }
+    ensures covers { count < threads * (result + 1) }
+    ensures part { 1 < result → threads * result ≤ count }
 {
     (count / u64::from(threads)).max(1)
 }
