@@ -74,7 +74,7 @@ explores_by protocol.Echo = by_any wave.echo wave_words.words.kind wave.bound_of
 module _ (x : Explores) (g : Shape) (wake : WakeSet) where
   -- the texts of runs, one that ends as each row says, in order
   pub data AreRunsOf : List x.Row → List ℕ → Type 0 where
-    None : AreRunsOf [] []
+    No_runs : AreRunsOf [] []
     More : (rows : List x.Row) (text : List ℕ) (r : x.Row) (es : List Event) → AreRunsOf rows text → x.ends_in g wake r es →
         AreRunsOf (rows ++ r ∷ []) (text ++ x.stored es)
 

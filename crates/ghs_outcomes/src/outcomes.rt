@@ -37,7 +37,11 @@ pub fn hand_outcomes(
 ) -> usize
     ensures { IsHandedOver (IsOutcomesAnswer protocol wake limit graph.now) result out.old out.new }
 {
-    hand_over(alloc, answer_of(alloc, protocol, wake, at_least_1(limit), graph), out)
+    hand_over(
+        alloc,
+        answer_of(alloc, protocol, wake, at_least_1(limit), graph),
+        out,
+    )
 }
 
 /// What is told of all runs of a graph's text.

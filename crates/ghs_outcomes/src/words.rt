@@ -6,6 +6,7 @@ use ghs_lines::numbers::put_number;
 use std::alloc::{AllocError, Global};
 
 /// The graph is too large. Refusal: out of memory.
+#[tactic(auto, unfolding(crate::specs::Words::too_large_json))]
 pub(crate) fn too_large(alloc: Global) -> Result<Vec<u8>, AllocError>
     ensures { IfOk result (λ text. text.items ≡ too_large_json) }
 {
@@ -16,6 +17,7 @@ pub(crate) fn too_large(alloc: Global) -> Result<Vec<u8>, AllocError>
 }
 
 /// There are more states than the limit. Refusal: out of memory.
+#[tactic(auto, unfolding(crate::specs::Words::too_many_json))]
 pub(crate) fn too_many(alloc: Global, limit: u32) -> Result<Vec<u8>, AllocError>
     ensures { IfOk result (λ text. text.items ≡ too_many_json limit) }
 {
@@ -26,6 +28,7 @@ pub(crate) fn too_many(alloc: Global, limit: u32) -> Result<Vec<u8>, AllocError>
 }
 
 /// No numbers are left. Refusal: out of memory.
+#[tactic(auto, unfolding(crate::specs::Words::no_numbers_json))]
 pub(crate) fn no_numbers(alloc: Global) -> Result<Vec<u8>, AllocError>
     ensures { IfOk result (λ text. text.items ≡ no_numbers_json) }
 {
