@@ -1,4 +1,4 @@
-//! All runs of a small network, for a page: from a graph's text with which counts of messages the runs end, and a run of each.
+//! All runs, for a page: from a graph's text with which counts of messages the runs end, and a run of each.
 //!
 //! Proved: `hand_outcomes` hands over the text of `ghs explore`, and behind it the stored run of each row, as `ghs explore
 //! --print trace` prints it; or the line of what stands against it (`IsOutcomesAnswer`). Each is so only where it is so: a graph

@@ -1,5 +1,5 @@
-//! A run that a hand leads, for a page: the calls of `ghs_hand` as a static library exports them, and that of `ghs_outcomes`, all
-//! runs of a small network. A graph's text and a trace's text come in, and a text goes out. Nothing is kept between two calls,
+//! What a page calls: the calls of `ghs_hand`, a run that a hand leads, and of `ghs_outcomes`, all runs of a small network, as a
+//! static library exports them. A graph's text and a trace's text come in, and a text goes out. Nothing is kept between two calls,
 //! and no call asks for more than its types say.
 //!
 //! Proved: the answers are those of `hand_seen`, `hand_run` and `hand_outcomes` (`IsHandedOver`). What is made of the library for browsers
@@ -84,7 +84,14 @@ pub extern "C" fn ghs_web_outcomes(
 ) -> usize
     ensures { IsHandedOver (IsOutcomesAnswer (protocol_of protocol) (wakers_of first) limit graph.now) result out.old out.new }
 {
-    hand_outcomes(alloc, protocol_of(protocol), wakers_of(first), limit, graph, out)
+    hand_outcomes(
+        alloc,
+        protocol_of(protocol),
+        wakers_of(first),
+        limit,
+        graph,
+        out,
+    )
 }
 
 /// The protocol of a number.

@@ -10,6 +10,7 @@ pub loop-k-preserved : goal.loop-k-preserved
 loop-k-preserved c =
     let x = c.args.explored.now in
     let within : c.loop-k.k < length x.rows = search rules in
-    one_more by_ghs x.graph x.wake x.rows c.loop-k.k c.in_ok-events.events.items c.deref.result.now c.in_ok-run.run'.items c.deref-in-loop-k.result.now c.args.text.now.items c.loop-k.text.items
+    one_more by_ghs x.graph x.wake x.rows c.loop-k.k c.in_ok-events.events.items c.deref.result.now c.in_ok-run.run'.items
+    c.deref-in-loop-k.result.now c.args.text.now.items c.loop-k.text.items
     c.extend_from_slice.new.self.items within c.loop-k.invariant c.in_ok-events.ensures.ends
     c.deref.ensures.value c.in_ok-run.ensures c.deref-in-loop-k.ensures.value c.in_ok-extend_from_slice.ensures.items
