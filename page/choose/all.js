@@ -37,7 +37,7 @@ function endAll(text = '') {
   $('allrows').innerHTML = '';
   allState(text, false);
 }
-function explore() {
+function beginAll() {
   endAll();
   const by = +$('allby').value, url = URL.createObjectURL(new Blob([workerText()], { type: 'text/javascript' })), now = explored = { graph: graphText, first: wakeFirst, by, limit: 0, passed: 0, worker: new Worker(url) };
   URL.revokeObjectURL(url);
@@ -78,9 +78,9 @@ function keepAll() {
   if (explored && (explored.graph !== graphText || explored.first !== wakeFirst)) endAll('The network or its wake set has changed.');
 }
 function alls() {
-  $('allruns').onclick = () => { $('all').hidden = false; explore(); $('all').scrollIntoView({ block: 'nearest' }); };
+  $('allruns').onclick = () => { $('all').hidden = false; beginAll(); $('all').scrollIntoView({ block: 'nearest' }); };
   $('closeall').onclick = () => { endAll(); $('all').hidden = true; };
-  $('goall').onclick = $('allby').onchange = explore;
+  $('goall').onclick = $('allby').onchange = beginAll;
   $('stopall').onclick = () => endAll('Stopped: ' + (explored.passed ? 'there are more than ' + many(explored.passed) + ' states.' : 'no limit is passed yet.'));
   $('allrows').onclick = e => { if (e.target.dataset.row) openRow(+e.target.dataset.row); };
 }
