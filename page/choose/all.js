@@ -23,7 +23,8 @@ async function exploreAll({ bytes, graph, first, by, limits }) {
   postMessage({ text });
 }
 const workerText = () => "'use strict';\nconst UTF8 = new TextEncoder(), TEXT = new TextDecoder();\nlet box = null;\n" + allot + '\n' + hold + '\n' + exploreAll + '\nonmessage = e => exploreAll(e.data).catch(e => postMessage({ failed: e.message }));\n';
-const ofAll = () => $('allby').selectedOptions[0].textContent + ', ' + (wakeFirst ? 'only the first node of each component wakes by itself' : 'all nodes may wake');
+const BY = ['GHS', 'Bor\u016fvka in step', 'the echo wave'];
+const ofAll = () => 'By ' + BY[explored.by] + ', ' + (wakeFirst ? 'only the first node of each component wakes by itself' : 'all nodes may wake');
 const passed = () => explored.passed ? 'more than ' + many(explored.passed) + ' states' : 'exploring the states';
 function allState(text, working) {
   $('allstate').textContent = text;
@@ -41,10 +42,10 @@ function beginAll() {
   endAll();
   const by = +$('allby').value, url = URL.createObjectURL(new Blob([workerText()], { type: 'text/javascript' })), now = explored = { graph: graphText, first: wakeFirst, by, limit: 0, passed: 0, worker: new Worker(url) };
   URL.revokeObjectURL(url);
-  allState('By ' + ofAll() + ': ' + passed() + ' ..', true);
+  allState(ofAll() + ': ' + passed() + ' ..', true);
   now.worker.onmessage = ({ data }) => {
     if (explored !== now) return;
-    if (data.limit) { now.passed = now.limit; now.limit = data.limit; allState('By ' + ofAll() + ': ' + passed() + ' ..', true); return; }
+    if (data.limit) { now.passed = now.limit; now.limit = data.limit; allState(ofAll() + ': ' + passed() + ' ..', true); return; }
     now.worker.terminate();
     now.worker = null;
     if (data.failed) return endAll(data.failed + '.');
@@ -57,13 +58,13 @@ const capital = text => text[0].toUpperCase() + text.slice(1);
 // the lines that the program prints too: a row each, the least and the greatest sum with the bound, the states; then a run of each row
 function showAll(text) {
   const fault = faultOf(text);
-  if (fault) return allState(capital(fault.words) + '.' + (fault.fault === 'states' ? ' The page stops here; the command ./ghs explore goes on.' : ''), false);
+  if (fault) return allState((fault.fault === 'states' ? 'There are more than ' + many(explored.limit) + ' states; the page stops here' : capital(fault.words) + (explored.passed ? ': there are more than ' + many(explored.passed) + ' states' : '')) + '.' + (explored.passed ? ' The command ./ghs explore can go on.' : ''), false);
   const [lines, ...runs] = text.split(/^(?=trace )/m), words = lines.trimEnd().split('\n').map(line => line.split(' '));
   const rows = words.filter(w => w[0] === 'e').map(w => ({ sum: +w[2], sent: w.slice(3).map(x => x.split('=')) })), [, least, greatest, bound] = words.find(w => w[0] === 'r'), states = words.find(w => w[0] === 'x')[1];
   Object.assign(explored, { rows, runs });
   const own = explored.by === 0, sums = least === greatest ? 'Each run sends ' + least + ' messages' : 'No run sends fewer than ' + least + ' messages or more than ' + greatest;
-  allState('By ' + ofAll() + ': ' + many(states) + ' states. ' + sums + ' (the bound is ' + bound + '). ' + (rows.length === 1 ? 'Each run ends with these counts.' : 'Each run ends with one of these ' + many(rows.length) + ' rows of counts, and each row occurs.') + (own ? '' : ' This page leads runs of GHS only, so no row can be opened.'), false);
-  $('allrows').innerHTML = '<table><tr>' + (own ? '<th></th>' : '') + ['all', ...rows[0].sent.map(([name]) => name)].map(name => '<th class="n"><span>' + name + '</span></th>').join('') + '</tr>'
+  allState(ofAll() + ': ' + many(states) + ' states. ' + sums + ' (the bound is ' + bound + '). ' + (rows.length === 1 ? 'Each run ends with these counts.' : 'Each run ends with one of these ' + many(rows.length) + ' rows of counts, and each row occurs.') + (own ? '' : ' This page leads runs of GHS only, so no row can be opened.'), false);
+  $('allrows').innerHTML = '<table><tr>' + (own ? '<th></th>' : '') + ['sum', ...rows[0].sent.map(([name]) => name)].map(name => '<th class="n"><span>' + name + '</span></th>').join('') + '</tr>'
     + rows.map((r, k) => '<tr>' + (own ? '<td><button data-row="' + k + '" title="opens a run that ends so">open</button></td>' : '') + '<td class="n"><b>' + r.sum + '</b></td>' + r.sent.map(([, n]) => '<td class="n">' + n + '</td>').join('') + '</tr>').join('') + '</table>';
 }
 function openRow(k) {
