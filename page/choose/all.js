@@ -1,5 +1,6 @@
 // ---- all runs of the network at hand. The module explores them in a worker, so the page goes on; where the worker is ended, it stops
-const LIMITS = [2000, 20000, 200000, 2000000];
+// limits of states, the last by time and memory: 24 s and 578 MB by GHS on a busy machine, 11 s and 546 MB by the others, whose states are larger
+const LIMITS = [2000, 20000, 200000], LAST = [2000000, 1000000, 1000000];
 let explored = null;
 const many = n => Number(n).toLocaleString('en-US');
 // in the worker: the module is asked by rising limits; as long as there are more states than the limit, that is its answer
@@ -52,7 +53,7 @@ function beginAll() {
     showAll(data.text);
   };
   now.worker.onerror = () => { if (explored === now) endAll('This browser starts no worker here.'); };
-  now.worker.postMessage({ bytes: moduleBytes(), graph: graphText, first: wakeFirst ? 1 : 0, by, limits: LIMITS });
+  now.worker.postMessage({ bytes: moduleBytes(), graph: graphText, first: wakeFirst ? 1 : 0, by, limits: [...LIMITS, LAST[by]] });
 }
 const capital = text => text[0].toUpperCase() + text.slice(1);
 // the lines that the program prints too: a row each, the least and the greatest sum with the bound, the states; then a run of each row
