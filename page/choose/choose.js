@@ -2,10 +2,8 @@
 // ---- the module: the program's own rules, which are proved. The page asks it, and knows no rule of its own.
 const UTF8 = new TextEncoder(), TEXT = new TextDecoder();
 let box = null, room = 0n, roomSize = 1 << 16;
-async function power() {
-  const bytes = Uint8Array.from(atob($('module').textContent.trim()), c => c.charCodeAt(0));
-  box = (await WebAssembly.instantiate(bytes, {})).instance.exports;
-}
+const moduleBytes = () => Uint8Array.from(atob($('module').textContent.trim()), c => c.charCodeAt(0));
+async function power() { box = (await WebAssembly.instantiate(moduleBytes(), {})).instance.exports; }
 function allot(n) {
   const at = box.heap_take(BigInt(Math.max(1, n)));
   if (!at) throw Error('the page is out of memory');
@@ -223,7 +221,7 @@ show = function () {
   showRun();
   const rule = $('say').querySelector('.row');
   if (rule && ROWS[rule.textContent]) { rule.tabIndex = 0; rule.setAttribute('role', 'button'); rule.title = 'shows the rule'; }
-  if (graphText) { offer(); guide(); }
+  if (graphText) { offer(); guide(); keepAll(); }
 };
 halt = function () { const was = timer; haltRun(); if (was && graphText) offer(); };
 // what a message is that may be taken, or stands behind another
@@ -392,6 +390,7 @@ function hands() {
   $('savetrace').onclick = () => keep('run.trace', traceOf(eventsNow()));
   $('hundred').onclick = hundred;
   $('closemany').onclick = () => $('many').close();
+  alls();
   boards();
   guides();
   addEventListener('paste', e => { const text = e.clipboardData.getData('text'); if (!e.target.matches('input, textarea') && text.trim()) { e.preventDefault(); take(text); } });

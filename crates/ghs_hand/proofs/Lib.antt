@@ -1,6 +1,6 @@
--- Serves the proofs: nothing here has to be believed.
+-- Serves the proofs: nothing here has to be believed. lemmas is what proofs above this crate may use.
 mod Ending
-mod Handing
+pub mod lemmas
 mod Nowhere
 mod Offered
 mod Waiting

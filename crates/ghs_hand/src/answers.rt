@@ -92,8 +92,9 @@ fn gone_on(alloc: Global, mut world: World, patient: bool, seed: u64) -> Result<
     }
 }
 
-/// Hands a text over, or the line of a fault.
-fn hand_over(alloc: Global, answer: Result<Vec<u8>, HandFault>, out: &mut [u8]) -> usize
+/// Hands a text over, or the line of a fault. The answer is how many bytes that has; where they fit into `out` they are its
+/// front, and else it is as it was.
+pub fn hand_over(alloc: Global, answer: Result<Vec<u8>, HandFault>, out: &mut [u8]) -> usize
     ensures { IsHandedOver (λ t. MatchResult answer (λ text. t ≡ text.items) (λ fault. t ≡ fault_json fault) ⊎ (t ≡ fault_json Memory)) result out.old out.new }
 {
     match answer {

@@ -29,8 +29,8 @@ pub fn led(alloc: Global, wake: WakeSet, graph: &[u8], trace: &[u8]) -> Result<W
     }
 }
 
-/// The graph of a text.
-fn graph_of(alloc: Global, text: &[u8]) -> Result<Graph, HandFault>
+/// The graph of a text. Refusals: the text's fault; out of memory.
+pub fn graph_of(alloc: Global, text: &[u8]) -> Result<Graph, HandFault>
     ensures graph { IfOk result (λ g. IsTextOf text.now g) }
     ensures fault { IfErr result (λ fault. HasNoGraph text.now fault) }
 {

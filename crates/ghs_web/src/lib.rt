@@ -1,19 +1,23 @@
-//! A run that a hand leads, for a page: the calls of `ghs_hand` as a static library exports them. A graph's text and a
-//! trace's text come in, and a text goes out. Nothing is kept between two calls, and no call asks for more than its types
-//! say.
+//! What a page calls: the calls of `ghs_hand`, a run that a hand leads, and of `ghs_outcomes`, all runs of a small network, as a
+//! static library exports them. A graph's text and a trace's text come in, and a text goes out. Nothing is kept between two calls,
+//! and no call asks for more than its types say.
 //!
-//! Proved: the answers are those of `hand_seen` and `hand_run` (`IsHandedOver`). What is made of the library for browsers
+//! Proved: the answers are those of `hand_seen`, `hand_run` and `hand_outcomes` (`IsHandedOver`). What is made of the library for browsers
 //! (`page/module`) is compared with the program by `page/held`, and not proved.
 //!
 //! How a page calls them, and asks again where an answer didn't fit: `call` in page/choose/choose.js.
 #![tactic(auto)]
 
 ghost use Rattle.ghs_hand.specs.Answers.{IsHandedOver, IsRunAnswer, IsSeenAnswer};
+ghost use Rattle.ghs_outcomes.specs.Outcomes.{IsOutcomesAnswer};
+ghost use Rattle.ghs_web.specs.Protocols.{protocol_of};
 ghost use Rattle.ghs_web.specs.Wakers.{wakers_of};
 ghost use Rattle.std.specs.Prelude.{◌≡◌};
 
 use ghs_hand::answers::{hand_run, hand_seen};
+use ghs_outcomes::outcomes::hand_outcomes;
 use peer_network::wake_set::WakeSet;
+use peer_trace::protocol::Protocol;
 use std::alloc::Global;
 
 /// What a page is told of the world to which a graph's text and a trace's text lead, or the fault for which they lead to
@@ -59,6 +63,46 @@ pub extern "C" fn ghs_web_run(
     ensures { IsHandedOver (IsRunAnswer (wakers_of first) graph.now trace.now patient seed) result out.old out.new }
 {
     hand_run(alloc, wakers_of(first), graph, trace, patient, seed, out)
+}
+
+/// With which counts all runs of a graph's text end by a protocol, how many states they lead to, and a run of each count; or
+/// what stands against it, as more states than the limit. The protocol is GHS (0), Borůvka in step (1) or the echo wave (any
+/// other number). The answer is how many bytes that has; where they fit into `out` they are its front, and else it is as it was.
+///
+/// ```text
+/// // in JavaScript: by GHS, and no more than 2,000 states
+/// const n = box.ghs_web_outcomes(0, 0, 2000, graph, graphBytes, room, roomBytes);
+/// ```
+#[unsafe(no_mangle)]
+pub extern "C" fn ghs_web_outcomes(
+    alloc: Global,
+    first: bool,
+    protocol: u32,
+    limit: u32,
+    graph: &[u8],
+    out: &mut [u8],
+) -> usize
+    ensures { IsHandedOver (IsOutcomesAnswer (protocol_of protocol) (wakers_of first) limit graph.now) result out.old out.new }
+{
+    hand_outcomes(
+        alloc,
+        protocol_of(protocol),
+        wakers_of(first),
+        limit,
+        graph,
+        out,
+    )
+}
+
+/// The protocol of a number.
+fn protocol_of(number: u32) -> Protocol
+    ensures { result ≡ protocol_of number }
+{
+    match number {
+        0 => Protocol::Ghs,
+        1 => Protocol::Boruvka,
+        _ => Protocol::Echo,
+    }
 }
 
 /// Which nodes wake by themselves.

@@ -1,0 +1,2 @@
+-- Lemmas that proofs above this crate may use.
+pub mod Handing

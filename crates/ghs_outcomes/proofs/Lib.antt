@@ -1,0 +1,2 @@
+-- Serves the proofs: nothing here has to be believed.
+mod Telling
