@@ -108,24 +108,6 @@ impl<P: Protocol> World<P> {
         self.index.kth_placed(self.net.graph(), k as u32)
     }
 
-    /// Plays a placed event, as `play_placed` does, and answers the messages that went out, each with its port, in the order
-    /// of sending.
-    pub fn play_answered(
-        &mut self,
-        alloc: Global,
-        placed: Placed,
-    ) -> Result<Vec<(u32, P::Message)>, AllocError>
-        requires placed { IsPlaced (network self.old.net) placed }
-        requires ready { is_ready P.rules self.old placed.event ≡ true }
-        ensures played { OnOk result (HasPlayed P.rules self.old placed.event self.new) }
-        ensures sends { IfOk result (λ s. AreSends P.rules self.old.net placed.event s.items) }
-        ensures err { OnErr result (self.new ≡ self.old) }
-    {
-        let sends = self.net.play_placed(alloc, placed)?;
-        mark_changed(&mut self.index, &self.net, self.wake, placed, &sends);
-        Ok(sends)
-    }
-
     /// Plays an event. Beside the reaction that takes O(1) for each message that is sent. If an allocation is refused the
     /// world is as it was.
     pub fn play(&mut self, alloc: Global, event: Event) -> Result<(), AllocError>

@@ -1,8 +1,8 @@
 use Rattle.peer_lifo.proofs.Running.{next_is_ready}
 use Rattle.peer_lifo.proofs.run.play_next.Goals as goal
 
-pub play_answered-requires-clause-ready : goal.play_answered-requires-clause-ready
-play_answered-requires-clause-ready g c =
+pub play_followed-requires-clause-ready : goal.play_followed-requires-clause-ready
+play_followed-requires-clause-ready g c =
     next_is_ready g.P.Protocol.rules c.args.world.now c.in_ok-rest.rest c.pick-placed.result.event c.pick-placed.new.schedule
     c.pick-placed.ensures.next
 

@@ -1,7 +1,7 @@
 use Rattle.std.proofs.Common.{◌∙◌, ap, length, arith}
 use Rattle.peer_net.specs.NetState.{NetState}
 use Rattle.peer_lifo.proofs.Running.{is_whole, none_ready, run_begins, run_more}
-use Rattle.peer_lifo.proofs.run.run_lifo.Goals as goal
+use Rattle.peer_lifo.proofs.run.run_followed.Goals as goal
 
 pub returns-then-ready_count-gt0-clause-run : goal.returns-then-ready_count-gt0-clause-run
 returns-then-ready_count-gt0-clause-run g c = run_begins g.P.Protocol.rules c.args.turns c.args.world.now c.args.schedule.now
@@ -13,6 +13,7 @@ pub events-init : goal.events-init
 events-init g c = record {
   run = run_begins g.P.Protocol.rules c.args.turns c.args.world.now c.args.schedule.now;
   latest = c.in_ok-latest.ensures;
+  kept = c.requires.kept;
 }
 
 pub events-preserved : goal.events-preserved
@@ -23,6 +24,7 @@ events-preserved g c =
           run_more g.P.Protocol.rules c.args.turns c.args.world.now c.events.world c.args.schedule.now c.events.schedule c.events.invariant.run
           c.play_next.new.world c.play_next.new.schedule (omega (arith, many, c.if-trace-turns.false)) c.in_ok-play_next.ensures.ok;
       latest = c.play_next.ensures.latest;
+      kept = c.play_next.ensures.kept;
     }
 
 pub returns-in_err-play_next-clause-run : goal.returns-in_err-play_next-clause-run
