@@ -2,9 +2,9 @@
 //! event by event, run by a seed, measured, explored and told line by line; and the texts of stored runs, which name their
 //! protocol.
 //!
-//! The runs, the texts, the numbers and the bits were reckoned by hand from the rules and the formats, or by `bench/echo`, and
-//! not taken from what the program does. The words of a seed are what SplitMix64 and Xoshiro256++ give as their authors publish them. `runs` has the
-//! runs, and `playing` the nets and worlds of a graph's text.
+//! The runs, the texts, the numbers and the bits were reckoned by hand from the rules and the formats, or by `bench/echo` and
+//! `bench/lifo`, and not taken from what the program does. The words of a seed are what SplitMix64 and Xoshiro256++ give as their
+//! authors publish them. `runs` has the runs, and `playing` the nets and worlds of a graph's text.
 #![tactic(auto)]
 
 #[cfg(test)]
@@ -31,6 +31,8 @@ mod echo_nets;
 mod echo_runs;
 #[cfg(test)]
 mod knock_nets;
+#[cfg(test)]
+mod lifo_runs;
 #[cfg(test)]
 mod playing;
 #[cfg(test)]

@@ -17,7 +17,7 @@ use Rattle.peer_lifo.specs.Newest.{Newest, answered, if_then, newest_after, newe
 
 pub record AreApart (n : Newest) : Type 0 where
   pub within : (v p : ℕ) → n.last v p ≤ n.count
-  pub apart : (v p u q : ℕ) → 0 < n.last v p → n.last v p ≡ n.last u q → (v ≡ u) × (p ≡ q)
+  pub apart : (v u p q : ℕ) → 0 < n.last v p → n.last v p ≡ n.last u q → (v ≡ u) × (p ≡ q)
 
 numbered_apart : (v p : ℕ) (n : Newest) → AreApart n → AreApart (numbered v p n)
 numbered_apart v p n h = record { within = within; apart = apart }
@@ -34,15 +34,15 @@ numbered_apart v p n h = record { within = within; apart = apart }
         (λ ne. let is = miss a b ne in let le = h.within a b in omega (arith, is, le))
         (one_place v p a b)
 
-    apart : (a b u q : ℕ) → 0 < (numbered v p n).last a b → (numbered v p n).last a b ≡ (numbered v p n).last u q → (a ≡ u) × (b ≡ q)
-    apart a b u q lt e = ⊎_elim
+    apart : (a u b q : ℕ) → 0 < (numbered v p n).last a b → (numbered v p n).last a b ≡ (numbered v p n).last u q → (a ≡ u) × (b ≡ q)
+    apart a u b q lt e = ⊎_elim
         (λ z. ⊎_elim
         (λ y. (z.0 ∙ sym y.0, z.1 ∙ sym y.1))
         (λ ne. let one = hit a b z in let other = miss u q ne in let le = h.within u q in absurd (omega (arith, one, other, le, e)))
         (one_place v p u q))
         (λ ne. ⊎_elim
         (λ y. let one = miss a b ne in let other = hit u q y in let le = h.within a b in absurd (omega (arith, one, other, le, e)))
-        (λ ne'. h.apart a b u q (subst (λ k. 0 < k) (miss a b ne) lt) (sym (miss a b ne) ∙ e ∙ miss u q ne'))
+        (λ ne'. h.apart a u b q (subst (λ k. 0 < k) (miss a b ne) lt) (sym (miss a b ne) ∙ e ∙ miss u q ne'))
         (one_place v p u q))
         (one_place v p a b)
 
@@ -68,16 +68,14 @@ module _ {S M : Type 0} (r : Rules S M) (g : Network) where
   sends_of v [] w n h = h
   sends_of v (s ∷ ss) w n h = sends_of v ss (send r g v w s) (sent_on g v s.0 n) (send_of v w n s h)
 
-  -- a message waits in such a queue
-  waits : (m : M) (ms : List M) → nat_lt 0 (length (m ∷ ms)) ≡ true
-  waits m ms = lt-ltb 0 (length (m ∷ ms)) (omega arith)
-
   take_of : (v p : ℕ) (m : M) (ms : List M) (w : Net S M) (n : Newest) → w.queue v p ≡ m ∷ ms → AreOf w n → AreOf (take_first r g v p m ms w) n
   take_of v p m ms w n is h = record { numbers = h.numbers; some = some }
     where
       some : (u q : ℕ) → nat_lt 0 (length ((take_first r g v p m ms w).queue u q)) ≡ true → 0 < n.last u q
       some u q t = ⊎_elim
-          (λ (z : (u ≡ v) × (q ≡ p)). let lt = h.some v p (ap (λ (l : List M). nat_lt 0 (length l)) is ∙ waits m ms) in rw (z.0, z.1) lt)
+          (λ (z : (u ≡ v) × (q ≡ p)).
+          let lt = h.some v p (ap (λ (l : List M). nat_lt 0 (length l)) is ∙ lt-ltb 0 (length (m ∷ ms)) (omega arith)) in
+          rw (z.0, z.1) lt)
           (λ ne.
           h.some u q
           (ap (λ (l : List M). nat_lt 0 (length l))
@@ -113,7 +111,7 @@ module _ {S M : Type 0} (r : Rules S M) (g : Network) where
 
   opening_of : AreOf (opening r g) none_sent
   opening_of = record {
-    numbers = record { within = λ v p. omega arith; apart = λ v p u q lt e. absurd (omega (arith, lt)) };
+    numbers = record { within = λ v p. omega arith; apart = λ v u p q lt e. absurd (omega (arith, lt)) };
     some = λ v p t. cc t;
   }
 

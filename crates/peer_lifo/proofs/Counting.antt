@@ -1,23 +1,21 @@
 -- The numbers of one event more, and how many they are.
 use Rattle.std.proofs.Common.{◌≡◌, ℕ, ◌+◌, ◌^◌, ◌<◌, Option, Some, None, List, [], ◌∷◌, ◌++◌, length, refl, sym, ◌∙◌, ap, arith}
 use Rattle.std.specs.Prelude.{option_and_then}
-use Rattle.std.proofs.lemmas.List.{length-map}
 use Rattle.std.proofs.lemmas.Option.{same_Some}
 use Rattle.ghs_graph.specs.Graph.{Shape, IsGraph}
 use Rattle.peer_network.specs.declared.event.Event.{Event}
 use Rattle.peer_network.specs.declared.event.Event.TheVariants as events
 use Rattle.peer_network.specs.Network.{Network}
-use Rattle.peer_network.proofs.lemmas.Sums.{sum_add, sum_none, sum_same}
-use Rattle.peer_machine.specs.Rules.{Rules, Outcome, Outgoing, HasKinds, messages}
-use Rattle.peer_machine.specs.Net.{Net, event_node, happens, opening, reacted, take_first}
-use Rattle.peer_machine.specs.Ledger.{in_all, of_kind}
+use Rattle.peer_network.proofs.lemmas.Sums.{sum_none}
+use Rattle.peer_machine.specs.Rules.{Rules, Outcome, Outgoing, HasKinds}
+use Rattle.peer_machine.specs.Net.{Net, event_node, happens, opening, take_first}
+use Rattle.peer_machine.specs.Ledger.{in_all}
 use Rattle.peer_machine.specs.Protocol.{FitsGraphs, IsBoundedBy}
 use Rattle.peer_machine.specs.Run.{IsRun, run}
 use Rattle.peer_machine.specs.Steps.{Happens, Took, Woke}
-use Rattle.peer_machine.proofs.lemmas.Balance.{kinds_in_all}
+use Rattle.peer_machine.proofs.lemmas.Counts.{sent_in_all}
 use Rattle.peer_machine.proofs.lemmas.Events.{happening}
 use Rattle.peer_machine.proofs.lemmas.Runs.{after_is_net}
-use Rattle.peer_machine.proofs.lemmas.Sends.{sent_now}
 use Rattle.peer_net.specs.NetState.{NetState, delivery, net_of, network, work_at}
 use Rattle.peer_lifo.specs.Newest.{Newest, answered, if_then, newest_after, newest_of, newest_then, none_sent, sent, sent_on}
 
@@ -61,24 +59,14 @@ module _ {S M : Type 0} (r : Rules S M) where
   none_yet g = refl
 
   module _ (kinds : HasKinds r) (g : Network) where
-    -- what an event sends is counted
-    sends_counted : (v : ℕ) (o : Outcome S M) (w : Net S M) → in_all r (reacted r g v o w).sent ≡ in_all r w.sent + length o.sends
-    sends_counted v o w =
-        let each : in_all r (reacted r g v o w).sent ≡ in_all r (λ k. w.sent k + of_kind r k (messages o.sends)) =
-        sum_same r.kinds _ _ (λ k lt. sent_now r g v o w k) in
-        let both = sum_add r.kinds w.sent (λ k. of_kind r k (messages o.sends)) in
-        let all = kinds_in_all r kinds (messages o.sends) in
-        let count : length (messages o.sends) ≡ length o.sends = length-map o.sends _ in
-        omega (arith, each, both, all, count)
-
     happens_counted : (w x : Net S M) (e : Event) (n : Newest) → Happens r g w e x → n.count ≡ in_all r w.sent →
         (newest_then r g w e n).count ≡ in_all r x.sent
     happens_counted w _ _ n (Woke v o lo hi s k t) i =
-        let count = sends_counted v o w in
+        let count = sent_in_all r g kinds v o w in
         let out = sent_count g v o.sends n in
         ap (λ (z : Option (Outcome S M)). (answered g (events.Wake v) z n).count) k ∙ out ∙ ap (λ (m : ℕ). m + length o.sends) i ∙ sym count
     happens_counted w _ _ n (Took v p m ms o at q k t) i =
-        let count = sends_counted v o (take_first r g v p m ms w) in
+        let count = sent_in_all r g kinds v o (take_first r g v p m ms w) in
         let out = sent_count g v o.sends n in
         let rule : r.reaction (w.node v) (work_at w (events.Take v p)) ≡ Some o =
         ap (λ (l : List M). r.reaction (w.node v) (delivery p l)) q ∙ k in

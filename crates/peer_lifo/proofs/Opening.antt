@@ -31,7 +31,8 @@ module _ {S M : Type 0} (r : Rules S M) (s : NetState) (trace : s.trace ≡ []) 
   pub latest_opens : (bases : List ℕ) (n : ℕ) (ranks : List ℕ) → AreBases (network s) s.graph.nodes bases → length (all_events (network s)) ≤ 2 ^ 25 →
       n ≡ length (all_events (network s)) → ranks ≡ replicate n 0 → AreLatest r s (record { bases = bases; count = 0; ranks = ranks })
   latest_opens bases n ranks laid few many are =
-      subst (λ (w : Net S M). AreRanks (network s) w (newest_of r (network s) s.trace) (record { bases = bases; count = 0; ranks = ranks })) (sym opens)
+      subst (λ (w : Net S M). AreRanks (network s) w (newest_of r (network s) s.trace) (record { bases = bases; count = 0; ranks = ranks }))
+      (sym opens)
       (subst (λ (m : Newest). AreRanks (network s) (opening r (network s)) m (record { bases = bases; count = 0; ranks = ranks })) (sym none_in)
       (record {
         is_for = record { bases = laid; many = ap length are ∙ length-replicate n 0 ∙ many; few = few };

@@ -38,7 +38,7 @@ module _ {S M : Type 0} (r : Rules S M) where
         let le = a.1 u q b.0 in
         let ge = b.1 v p a.0 in
         let some = h.some v p (and_parts (is_port g v p) _ a.0).1 in
-        let same = h.numbers.apart v p u q some (omega (arith, le, ge)) in
+        let same = h.numbers.apart v u p q some (omega (arith, le, ge)) in
         ap (λ x. Take x p) same.0 ∙ ap (Take u) same.1
 
   none_opens : (g : Network) (n : Newest) (e : Event) → IsLatest r g (opening r g) n e → ⊥
@@ -91,9 +91,9 @@ module _ {S M : Type 0} (r : Rules S M) (may : ℕ → Bool) (g : Shape) (turns 
   same_none : (es fs : List Event) → es ≡ fs → NoTake r (network_of g) (net_after r g fs) → NoTake r (network_of g) (net_after r g es)
   same_none es fs same none = subst (λ (xs : List Event). NoTake r (network_of g) (net_after r g xs)) (sym same) none
 
-  one_pick : (es fs : List Event) (s t : List ℕ) (e f : Event) → (es ≡ fs) × (s ≡ t) → IsPick (lawful_events r may g es) s e →
-      IsPick (lawful_events r may g fs) t f → e ≡ f
-  one_pick es fs s t e f same h k =
+  one_pick : (es fs : List Event) (s t : List ℕ) (e f : Event) → IsPick (lawful_events r may g es) s e →
+      IsPick (lawful_events r may g fs) t f → (es ≡ fs) × (s ≡ t) → e ≡ f
+  one_pick es fs s t e f h k same =
       same_Some e f (sym h.1 ∙ ap₂
       (λ (xs : List Event) (w : List ℕ). slice_get (lawful_events r may g xs) (word_of w % length (lawful_events r may g xs))) same.0 same.1 ∙ k.1)
 
@@ -109,7 +109,7 @@ module _ {S M : Type 0} (r : Rules S M) (may : ℕ → Bool) (g : Shape) (turns 
       (ap₂ (λ (xs : List Event) (y : Event). xs ++ y ∷ []) same.0 (one_of r g es x f l (same_latest es fs f same.0 l')), same.1)
   one_run (Picked es s x p few none pick) (Picked fs t f q few' none' pick') e =
       let same = one_run p q (omega (arith, e, length-append es (x ∷ []), length-append fs (f ∷ []))) in
-      (ap₂ (λ (xs : List Event) (y : Event). xs ++ y ∷ []) same.0 (one_pick es fs s t x f same pick pick'), ap next_of same.1)
+      (ap₂ (λ (xs : List Event) (y : Event). xs ++ y ∷ []) same.0 (one_pick es fs s t x f pick pick' same), ap next_of same.1)
   one_run (Latest es s x p few l) (Picked fs t f q few' none' pick') e =
       let same = one_run p q (omega (arith, e, length-append es (x ∷ []), length-append fs (f ∷ []))) in
       absurd (not_both r (network_of g) (net_after r g es) (newest_of r (network_of g) es) x l (same_none es fs same.0 none'))

@@ -1,7 +1,6 @@
 -- What such a run keeps.
-use Rattle.std.proofs.Common.{◌≡◌, inr, ℕ, ◌%◌, ◌<◌, ◌≤◌, true, List, [], length, Some, slice_get, refl, sym, ◌∙◌, ap, subst, ⊎_elim, arith}
+use Rattle.std.proofs.Common.{◌≡◌, inr, ℕ, ◌%◌, ◌<◌, true, List, [], length, Some, slice_get, refl, sym, ◌∙◌, ap, subst, ⊎_elim, arith}
 use Rattle.std.specs.List.{Contains}
-use Rattle.std.proofs.lemmas.List.{nil_from_length}
 use Rattle.std.proofs.lemmas.List.Elements.{Contains-get_or}
 use Rattle.std.proofs.lemmas.Option.{get_or_from_slice_get, slice_get_within}
 use Rattle.ghs_graph.specs.Graph.{Shape}
@@ -45,7 +44,8 @@ module _ {S M : Type 0} (r : Rules S M) where
           (Contains-get_or (ready_events r s) k e (slice_get_within (ready_events r s) k e pick.1)))).1
 
   -- the event at the place that a word gives
-  pub picked_is : (s : WorldState) (words : List ℕ) (n place : ℕ) (e : Event) → n ≡ length (ready_events r s) → place ≡ word_of words % n → place < n →
+  pub picked_is : (s : WorldState) (words : List ℕ) (n place : ℕ) (e : Event) → n ≡ length (ready_events r s) →
+      place ≡ word_of words % n → place < n →
       slice_get (ready_events r s) place ≡ Some e → IsPick (ready_events r s) words e
   picked_is s words n place e many is lt at = (
     omega (arith, many, lt),
@@ -86,7 +86,3 @@ module _ {S M : Type 0} (r : Rules S M) where
     -- where none is ready any more, it is whole
     pub is_whole : ready_events r s ≡ [] → IsWhole r turns old s words used
     is_whole none = record { picked = run.picked; over = inr (sym same_events ∙ none) }
-
-  -- where none is counted, none is ready
-  pub none_ready : (s : WorldState) (n : ℕ) → n ≡ length (ready_events r s) → n ≤ 0 → ready_events r s ≡ []
-  none_ready s n many none = nil_from_length (ready_events r s) (omega (arith, many, none))

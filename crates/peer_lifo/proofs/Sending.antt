@@ -141,7 +141,8 @@ module _ {S M : Type 0} (r : Rules S M) (g : Network) where
         miss : (f : Event) → HasPlace g f → f ≢ events.Take a b →
             get_or (set x.ranks (place g (events.Take a b)) (suc x.count)) (place g f) 0 ≡ get_or x.ranks (place g f) 0
         miss f here ne =
-            get_or-set_other x.ranks (place g (events.Take a b)) (place g f) (suc x.count) 0 (λ z. ne (place_apart g f (events.Take a b) here there z))
+            get_or-set_other x.ranks (place g (events.Take a b)) (place g f) (suc x.count) 0
+            (λ z. ne (place_apart g f (events.Take a b) here there z))
 
         -- a message waits where it has come
         arrived : nat_lt 0 (length (h.net.queue a b ++ s.1 ∷ [])) ≡ true

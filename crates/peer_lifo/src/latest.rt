@@ -18,7 +18,7 @@ use peer_schedule::schedule::Schedule;
 use std::alloc::{AllocError, Global};
 use std::marker::Model;
 
-/// The messages of a run, numbered 1, 2, .. as they are sent, as far as they tell which Take is next: 24 bytes an event, and 4
+/// The messages of a run, numbered 1, 2, .. as they are sent, as far as they tell which Take is next: 20 bytes an event, and 4
 /// a node.
 #[derive(Debug, Drop)]
 pub struct Latest {

@@ -1,6 +1,7 @@
 use Rattle.std.proofs.Common.{◌∙◌, ap, length, arith}
+use Rattle.std.proofs.lemmas.List.{nil_from_length}
 use Rattle.peer_net.specs.NetState.{NetState}
-use Rattle.peer_lifo.proofs.Running.{is_whole, none_ready, run_begins, run_more}
+use Rattle.peer_lifo.proofs.Running.{is_whole, run_begins, run_more}
 use Rattle.peer_lifo.proofs.run.run_followed.Goals as goal
 
 pub returns-then-ready_count-gt0-clause-run : goal.returns-then-ready_count-gt0-clause-run
@@ -34,4 +35,4 @@ returns-in_err-play_next-clause-run g c =
 pub returns-clause-whole : goal.returns-clause-whole
 returns-clause-whole g c =
     is_whole g.P.Protocol.rules c.args.turns c.args.world.now c.events.world c.args.schedule.now c.events.schedule c.events.invariant.run
-    (none_ready g.P.Protocol.rules c.events.world _ c.ready_count-in-events.ensures c.events-test.false)
+    (let many = c.ready_count-in-events.ensures in let none = c.events-test.false in nil_from_length _ (omega (arith, many, none)))

@@ -47,8 +47,8 @@ pub set-requires : goal.set-requires
 set-requires g c =
     let t = c.args.world.now.net in
     let graph : IsGraph t.graph = subst (λ (n : NetState). IsGraph n.graph) c.net-net.ensures.net c.trace.ensures.graph in
-    let but = none_left g.P.Protocol.rules t graph c.args.placed.event c.requires.placed.event c.args.sends.now c.loop-port.port-index c.loop-port.self
-    c.loop-port-test.false c.loop-port.invariant in
+    let but = none_left g.P.Protocol.rules t graph c.args.placed.event c.requires.placed.event c.args.sends.now c.loop-port.port-index
+    c.loop-port.self c.loop-port-test.false c.loop-port.invariant in
     let kept = rw (← c.self.view_is) at but.is_for in
     let many = kept.many in
     let within = place_within (network t) c.args.placed.event c.requires.placed.event in
@@ -60,8 +60,8 @@ returns-then-not-lawful_placed g c =
     let r = g.P.Protocol.rules in
     let t = c.args.world.now.net in
     let graph : IsGraph t.graph = subst (λ (n : NetState). IsGraph n.graph) c.net-net.ensures.net c.trace.ensures.graph in
-    let but = none_left r t graph c.args.placed.event c.requires.placed.event c.args.sends.now c.loop-port.port-index c.loop-port.self
-    c.loop-port-test.false c.loop-port.invariant in
+    let but = none_left r t graph c.args.placed.event c.requires.placed.event c.args.sends.now c.loop-port.port-index
+    c.loop-port.self c.loop-port-test.false c.loop-port.invariant in
     let at : c.place_of.result ≡ place (network t) c.args.placed.event = rw (c.graph-graph.ensures, c.net-net.ensures.net) at c.place_of.ensures in
     let lawful : c.lawful_placed.result ≡ is_lawful r (network t) (net_of r t) c.args.placed.event =
     rw c.net-net.ensures.net at c.lawful_placed.ensures in
@@ -74,8 +74,8 @@ returns-else-not-lawful_placed g c =
     let r = g.P.Protocol.rules in
     let t = c.args.world.now.net in
     let graph : IsGraph t.graph = subst (λ (n : NetState). IsGraph n.graph) c.net-net.ensures.net c.trace.ensures.graph in
-    let but = none_left r t graph c.args.placed.event c.requires.placed.event c.args.sends.now c.loop-port.port-index c.loop-port.self
-    c.loop-port-test.false c.loop-port.invariant in
+    let but = none_left r t graph c.args.placed.event c.requires.placed.event c.args.sends.now c.loop-port.port-index
+    c.loop-port.self c.loop-port-test.false c.loop-port.invariant in
     let lawful : c.lawful_placed.result ≡ is_lawful r (network t) (net_of r t) c.args.placed.event =
     rw c.net-net.ensures.net at c.lawful_placed.ensures in
     ranks_kept r (network t) c.args.placed.event c.requires.placed.event (net_of r t) (newest_in r t) c.loop-port.self but
