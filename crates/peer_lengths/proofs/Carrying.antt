@@ -43,7 +43,8 @@ module _ {S M : Type 0} (r : Rules S M) where
   pub if_told : {C : Type 0} {is_scale : Shape → C → Type 0} (g : Shape) (es : List Event) (m : MeterState C) (x : Result Lengths AllocError) →
       IsMeterOf r is_scale g es m →
       IfOk x (λ l. (h : Shape) (fs : List Event) → IsMeterOf r is_scale h fs m → AreLengths r h fs l) →
-      IfOk x (λ l. l.chain ≡ longest_chain r (network_of g) es) × IfOk x (λ l. l.bits ≡ bits_sent r g es) × IfOk x (λ l. l.longest ≡ longest_sent r g es)
+      IfOk x (λ l. l.chain ≡ longest_chain r (network_of g) es) × IfOk x (λ l. l.bits ≡ bits_sent r g es) ×
+      IfOk x (λ l. l.longest ≡ longest_sent r g es)
   if_told g es m (Ok l) is told = let are = told g es is in (are.chain, are.bits, are.longest)
   if_told g es m (Err e) is told = (tt, tt, tt)
 

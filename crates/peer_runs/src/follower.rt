@@ -34,13 +34,7 @@ pub trait Follower<P: Protocol> {
         ensures { IfOk result (λ s. has_seen net.now event s) };
 
     /// Follows an event that has happened, by what was seen before it and what its node has sent.
-    fn follow(
-        &mut self,
-        net: &Net<P>,
-        event: Event,
-        seen: Self::Seen,
-        sends: &[(u32, P::Message)],
-    )
+    fn follow(&mut self, net: &Net<P>, event: Event, seen: Self::Seen, sends: &[(u32, P::Message)])
         requires { IsBehind P.rules is_of has_seen self.old seen event net.now sends.now }
         ensures { is_of net.now.graph net.now.trace self.new };
 }

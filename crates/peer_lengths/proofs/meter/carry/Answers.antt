@@ -59,5 +59,5 @@ returns g c =
     let h = c.requires.1 in
     let played = played_of r c.requires.0 c.args.net.now c.args.event c.args.sends.now c.trace.ensures.graph c.trace.ensures.run h in
     let heard = rw (c.requires.2.asleep, c.requires.2.deferred) at c.in_ok-hear.ensures.heard in
-    carried_to r _ _ _ _ played c.args.chains.now c.hear.new.self c.requires.3 c.in_ok-hear.ensures.places heard c.args.net.now c.send.new.self h.graph
-    h.trace c.in_ok-send.ensures.places (rw (c.graph.ensures, c.node_of.ensures) at c.in_ok-send.ensures.sent)
+    carried_to r _ _ _ _ played c.args.chains.now c.hear.new.self c.requires.3 c.in_ok-hear.ensures.places heard c.args.net.now c.send.new.self
+    h.graph h.trace c.in_ok-send.ensures.places (rw (c.graph.ensures, c.node_of.ensures) at c.in_ok-send.ensures.sent)
