@@ -106,8 +106,8 @@ impl<P: Protocol> World<P> {
         self.index.kth_placed(self.net.graph(), k as u32)
     }
 
-    /// Plays a placed event, as `play_placed` does, and answers the messages that went out, each with its port, in the order
-    /// of sending.
+    /// Plays a placed event, and answers the messages that went out, each with its port, in the order of sending. Beside the
+    /// reaction that takes O(1) for each. If an allocation is refused the world is as it was.
     pub fn play_answered(
         &mut self,
         alloc: Global,
@@ -142,8 +142,7 @@ impl<P: Protocol> World<P> {
         ensures played { OnOk result (HasPlayed P.rules self.old placed.event self.new) }
         ensures err { OnErr result (self.new ≡ self.old) }
     {
-        let sends = self.net.play_placed(alloc, placed)?;
-        mark_changed(&mut self.index, &self.net, self.wake, placed, &sends);
+        self.play_answered(alloc, placed)?;
         Ok(())
     }
 
