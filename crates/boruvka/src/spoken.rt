@@ -20,7 +20,7 @@ use std::alloc::AllocError;
 
 impl Spoken for Boruvka {
     ghost use Rattle.boruvka.specs.Words.{words as all_words, touched_by};
-    ghost use Rattle.boruvka.specs.Kept.{keeps, named};
+    ghost use Rattle.boruvka.specs.Kept.{keeps, named, same_names};
 
     ghost words = { all_words };
 
@@ -69,6 +69,8 @@ impl Spoken for Boruvka {
     }
 
     ghost names_kinds = { named };
+
+    ghost names_variables = { same_names };
 
     ghost keeps_marks = { keeps };
 }

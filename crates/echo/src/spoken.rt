@@ -13,7 +13,7 @@ use std::alloc::AllocError;
 
 impl Spoken for Echo {
     ghost use Rattle.echo.specs.Words.{words as all_words, touched_by};
-    ghost use Rattle.echo.specs.Kept.{keeps, named};
+    ghost use Rattle.echo.specs.Kept.{keeps, named, same_names};
 
     ghost words = { all_words };
 
@@ -55,6 +55,8 @@ impl Spoken for Echo {
     }
 
     ghost names_kinds = { named };
+
+    ghost names_variables = { same_names };
 
     ghost keeps_marks = { keeps };
 }

@@ -11,7 +11,7 @@ use Rattle.peer_steps.specs.declared.change.Change.TheVariants.{Mark, Variable}
 unfoldable pub unless : Bool → Change → List Change
 unless same c = if same then [] else (c ∷ [])
 
--- a variable, if it is there before and afterwards, and differs
+-- what stands at one place before and afterwards, if it differs: one variable, by `names_variables` of `Spoken`
 abbrev pub variable_change : Option Said → Option Said → List Change
 variable_change (Some x) (Some y) = unless (is_same_value x.value y.value) (Variable y)
 variable_change _ _ = []

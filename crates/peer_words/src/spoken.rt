@@ -23,7 +23,7 @@ pub trait Spoken: Protocol {
     ghost use Rattle.std.specs.Prelude.{◌≡◌, ℕ, ◌<◌, ◌++◌, false, IfOk};
     ghost use Rattle.peer_words.specs.Touched.{is_touched};
     ghost use Rattle.peer_words.specs.declared.spoken.Touched.{Touched};
-    ghost use Rattle.peer_words.specs.Words.{Words};
+    ghost use Rattle.peer_words.specs.Words.{HaveSameNames, Words};
 
     /// The words that the functions below say.
     ghost words: { Words Self.Node Self.Message };
@@ -62,6 +62,9 @@ pub trait Spoken: Protocol {
 
     /// A message in words has the name of its kind.
     ghost names_kinds: { (m : Self.Message) → (words.says m).kind ≡ words.kind (Self.rules.kind_of m) };
+
+    /// All nodes have variables of the same names, in the same order.
+    ghost names_variables: { HaveSameNames words };
 
     /// A change keeps the marks of all other ports.
     ghost keeps_marks: { (n : Self.Node) (c : Self.Change) (p : ℕ) → is_touched (touched c) p ≡ false → words.mark (Self.after n c) p ≡ words.mark n p };
