@@ -26,33 +26,38 @@ async function exploreAll({ bytes, graph, first, by, limits }) {
 const workerText = () => "'use strict';\nconst UTF8 = new TextEncoder(), TEXT = new TextDecoder();\nlet box = null;\n" + allot + '\n' + hold + '\n' + exploreAll + '\nonmessage = e => exploreAll(e.data).catch(e => postMessage({ failed: e.message }));\n';
 const BY = ['GHS', 'Bor\u016fvka in step', 'the echo wave'];
 const ofAll = () => 'By ' + BY[explored.by] + ', ' + (wakeFirst ? 'only the first node of each component wakes by itself' : 'all nodes may wake');
-const passed = () => explored.passed ? 'more than ' + many(explored.passed) + ' states' : 'exploring the states';
+const passed = () => explored.passed ? 'more than ' + many(explored.passed) + ' states so far.' : 'exploring.';
 function allState(text, working) {
   $('allstate').textContent = text;
   $('stopall').hidden = !working;
   $('goall').hidden = working;
 }
+function endWorker() {
+  if (explored && explored.worker) explored.worker.terminate();
+  if (explored) URL.revokeObjectURL(explored.url);
+}
 // what is explored is ended, and what was found isn't shown any more
 function endAll(text = '') {
-  if (explored && explored.worker) explored.worker.terminate();
+  endWorker();
   explored = null;
   $('allrows').innerHTML = '';
   allState(text, false);
 }
+const NO_WORKER = 'This browser starts no worker here. The command ./ghs explore does the same.';
 function beginAll() {
   endAll();
-  const by = +$('allby').value, url = URL.createObjectURL(new Blob([workerText()], { type: 'text/javascript' })), now = explored = { graph: graphText, first: wakeFirst, by, limit: 0, passed: 0, worker: new Worker(url) };
-  URL.revokeObjectURL(url);
-  allState(ofAll() + ': ' + passed() + ' ..', true);
+  const by = +$('allby').value, url = URL.createObjectURL(new Blob([workerText()], { type: 'text/javascript' })), now = explored = { graph: graphText, first: wakeFirst, by, limit: 0, passed: 0, url, worker: null };
+  try { now.worker = new Worker(url); } catch { return endAll(NO_WORKER); }
+  allState(ofAll() + ': ' + passed(), true);
   now.worker.onmessage = ({ data }) => {
     if (explored !== now) return;
-    if (data.limit) { now.passed = now.limit; now.limit = data.limit; allState(ofAll() + ': ' + passed() + ' ..', true); return; }
-    now.worker.terminate();
+    if (data.limit) { now.passed = now.limit; now.limit = data.limit; allState(ofAll() + ': ' + passed(), true); return; }
+    endWorker();
     now.worker = null;
     if (data.failed) return endAll(data.failed + '.');
     showAll(data.text);
   };
-  now.worker.onerror = () => { if (explored === now) endAll('This browser starts no worker here.'); };
+  now.worker.onerror = () => { if (explored === now) endAll(NO_WORKER); };
   now.worker.postMessage({ bytes: moduleBytes(), graph: graphText, first: wakeFirst ? 1 : 0, by, limits: [...LIMITS, LAST[by]] });
 }
 const capital = text => text[0].toUpperCase() + text.slice(1);
@@ -73,7 +78,6 @@ function openRow(k) {
   if (!load(graphText, explored.runs[k], 0)) return;
   ledOn();
   setAside(was, '');
-  $('last').focus();
 }
 // what was explored of another network, or for another wake set, isn't of this page any more
 function keepAll() {

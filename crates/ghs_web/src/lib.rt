@@ -1,9 +1,9 @@
-//! What a page calls: the calls of `ghs_hand`, a run that a hand leads, and of `ghs_outcomes`, all runs of a small network, as a
-//! static library exports them. A graph's text and a trace's text come in, and a text goes out. Nothing is kept between two calls,
-//! and no call asks for more than its types say.
+//! What a page calls: the calls of `ghs_hand`, a run that a hand leads, and of `ghs_outcomes`, all runs of a small network,
+//! as a static library exports them. A graph's text and a trace's text come in, and a text goes out. Nothing is kept between
+//! two calls, and no call asks for more than its types say.
 //!
-//! Proved: the answers are those of `hand_seen`, `hand_run` and `hand_outcomes` (`IsHandedOver`). What is made of the library for browsers
-//! (`page/module`) is compared with the program by `page/held`, and not proved.
+//! Proved: the answers are those of `hand_seen`, `hand_run` and `hand_outcomes` (`IsHandedOver`). What is made of the library
+//! for browsers (`page/module`) is compared with the program by `page/held`, and not proved.
 //!
 //! How a page calls them, and asks again where an answer didn't fit: `call` in page/choose/choose.js.
 #![tactic(auto)]
