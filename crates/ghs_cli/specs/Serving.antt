@@ -27,6 +27,7 @@ use Rattle.ghs_commands.specs.declared.job.Task.{Task}
 use Rattle.ghs_commands.specs.declared.job.Task.TheVariants as task
 use Rattle.ghs_cli.specs.declared.fault.ServeFault.{ServeFault}
 use Rattle.ghs_cli.specs.declared.fault.ServeFault.TheVariants as serve
+use Rattle.ghs_cli.specs.Charts.{IsSweepText}
 use Rattle.ghs_cli.specs.Running.{HaveCores}
 use Rattle.ghs_cli.specs.Stepping.{CantTell}
 use Rattle.ghs_cli.specs.Verbs.{verbs_of}
@@ -181,7 +182,7 @@ meaning_of (task.Replay p wake) = of_both p ((verbs_of p).replays wake) ((verbs_
 meaning_of (task.Steps p o) = record (of_both p ((verbs_of p).tells o) (λ g events. CantTell ((verbs_of p).is_unlawful o.wake g events))) {
   by_portions = true;
 }
-meaning_of (task.Sweep p o) = of_input (IsOfText ((verbs_of p).sweeps o)) IsGraphCause
+meaning_of (task.Sweep ps o) = of_input (IsOfText (IsSweepText ps.items o.sheet o)) IsGraphCause
 meaning_of (task.View p o) = of_input (IsOfText ((verbs_of p).views o)) (IsTextCause ((verbs_of p).cant_view o))
 meaning_of (task.StoredView p o) = of_both p ((verbs_of p).views_stored o) ((verbs_of p).cant_view_stored o)
 meaning_of (task.Explore p o) = of_input (IsOfText ((verbs_of p).explores o)) (IsTextCause ((verbs_of p).cant_explore o))
