@@ -116,8 +116,8 @@ fn fulfil<R: Runtime + AllocGlobal + Threads + Wait + Sync>(rt: &R, alloc: Globa
     ensures { IsStatusOfJob result }
 {
     match &job.task {
-        Task::Sweep { protocol, options } if !job.networks.is_empty() => {
-            sweep(rt, alloc, *protocol, options, &job.networks)
+        Task::Sweep { protocols, options } if !job.networks.is_empty() => {
+            sweep(rt, alloc, protocols, options, &job.networks)
         }
         Task::Replay { protocol: _, wake } if job.book.is_some() => judge(rt, alloc, *wake, job),
         _ => finish(rt, do_job(rt, alloc, job)),
@@ -128,7 +128,7 @@ fn fulfil<R: Runtime + AllocGlobal + Threads + Wait + Sync>(rt: &R, alloc: Globa
 fn sweep<R: Runtime + AllocGlobal + Threads + Sync>(
     rt: &R,
     alloc: Global,
-    protocol: Protocol,
+    protocols: &[Protocol],
     options: &SweepOptions,
     names: &[String],
 ) -> u8
@@ -148,7 +148,7 @@ fn sweep<R: Runtime + AllocGlobal + Threads + Sync>(
     let mut out = Device::of(io::writer(rt));
     finish(
         rt,
-        sweep_networks(rt, alloc, protocol, options, &networks, &mut out),
+        sweep_networks(rt, alloc, protocols, options, &networks, &mut out),
     )
 }
 

@@ -1,5 +1,7 @@
 -- Sheets of sweeps.
-use Rattle.std.proofs.Common.{◌≡◌, ◌++◌, ◌∙◌, List, ℕ, None, Option, Some, ap, length, refl, subst, sym}
+use Rattle.std.proofs.Common.{◌≡◌, ◌++◌, ◌+◌, ◌<◌, ◌≤◌, ◌∙◌, Bool, List, ℕ, [], ◌∷◌, None, Option, Some, ap, append_assoc, length, refl, subst, sym, take}
+use Rattle.std.specs.List.{slice_index_or}
+use Rattle.std.proofs.lemmas.List.{take_all, take_more}
 use Rattle.ghs_graph.specs.Graph.{Shape}
 use Rattle.ghs_choices.specs.declared.by.By.{By}
 use Rattle.peer_sweep.specs.declared.figures.Figures.{Figures}
@@ -9,20 +11,13 @@ use Rattle.peer_sweep.specs.Lines.{line_behind, run_lines}
 use Rattle.peer_sweep.specs.Summary.{AreSummaryLines}
 use Rattle.peer_sweep.specs.Columns.{Layout}
 use Rattle.peer_trace.specs.declared.protocol.Protocol.{Protocol}
-use Rattle.peer_trace.specs.declared.protocol.Protocol.TheVariants as protocol
-use Rattle.ghs_cli.specs.Charts.{IsSweepText}
+use Rattle.peer_trace.specs.declared.protocol.Protocol.TheVariants.{Ghs}
+use Rattle.ghs_cli.specs.Fronts.{front_by, says_protocol}
 use Rattle.ghs_cli.specs.Swept.{AreRunsBy, by_of, layout_by, setup_of}
-use Rattle.ghs_cli.specs.Verbs.{verbs_of}
 use Rattle.ghs_commands.specs.declared.job.Sheet.{Sheet}
 use Rattle.ghs_commands.specs.declared.job.Sheet.TheVariants.{Runs, Summary}
 use Rattle.ghs_commands.specs.declared.job.SweepOptions.{SweepOptions}
-use Rattle.ghs_cli.specs.Sweeping.{AreLines, ArePartedRuns, AreSheetLines, AreSweptLines, IsSwept, count_of, head_by}
-
--- by each protocol a sweep comes to such a text; a further protocol has a line here
-pub sweeps_by : (p : Protocol) (o : SweepOptions) (g : Shape) (text : List ℕ) → IsSweepText p o.sheet o g text → (verbs_of p).sweeps o g text
-sweeps_by protocol.Ghs o g text is = is
-sweeps_by protocol.Boruvka o g text is = is
-sweeps_by protocol.Echo o g text is = is
+use Rattle.ghs_cli.specs.Sweeping.{AreLines, AreLinesBy, AreLinesByEach, ArePartedRuns, AreSheetLines, AreSweptLines, IsSwept, NextProtocol, count_of, heads_of}
 
 -- lines of runs behind a text, where these are asked for
 pub runs_behind : (o : SweepOptions) (front : List ℕ) (l : Layout) (setup : Setup) (runs : List Figures) (old new : List ℕ) →
@@ -64,36 +59,62 @@ sheet_is_swept p o front g l setup all runs old new laid same_setup same are cou
   printed,
 )
 
+-- where the lines by the first protocols stand behind a text, and then those by the next, those by one more do
+pub one_protocol_more : (ps : List Protocol) (says : Bool) (by : Option By) (o : SweepOptions) (front own : List ℕ) (g : Shape) (i : ℕ) (p : Protocol)
+    (old text new : List ℕ) →
+    p ≡ slice_index_or ps i Ghs →
+    i < length ps →
+    own ≡ front_by says o.form front p →
+    (lines : List ℕ) × AreLinesByEach says by o front g (take i ps) lines × (text ≡ old ++ lines) →
+    (lines : List ℕ) × AreLines p by o own g lines × (new ≡ text ++ lines) →
+    (lines : List ℕ) × AreLinesByEach says by o front g (take (i + 1) ps) lines × (new ≡ old ++ lines)
+one_protocol_more ps says by o front own g i p old text new is within begun (lines, before, first) (more, next, last) = (
+  lines ++ more,
+  subst (λ (l : List Protocol). AreLinesByEach says by o front g l (lines ++ more))
+      (ap (λ (q : Protocol). take i ps ++ q ∷ []) is ∙ sym (take_more ps i Ghs within))
+      (NextProtocol (take i ps) p lines more before (subst (λ (f : List ℕ). AreLines p by o f g more) begun next)),
+  last ∙ (ap (λ (t : List ℕ). t ++ more) first ∙ append_assoc old lines more),
+)
+
+-- with those by the last they are all
+pub all_lines : (ps : List Protocol) (says : Bool) (by : Option By) (o : SweepOptions) (front : List ℕ) (g : Shape) (i : ℕ) (old new : List ℕ) →
+    says ≡ says_protocol o.sheet ps →
+    by ≡ by_of ps o →
+    length ps ≤ i →
+    (lines : List ℕ) × AreLinesByEach says by o front g (take i ps) lines × (new ≡ old ++ lines) →
+    (lines : List ℕ) × AreLinesBy ps o front g lines × (new ≡ old ++ lines)
+all_lines ps says by o front g i old new same same_by past (lines, each, printed) = (
+  lines,
+  subst (λ (b : Option By). AreLinesByEach (says_protocol o.sheet ps) b o front g ps lines) same_by
+      (subst (λ (s : Bool). AreLinesByEach s by o front g ps lines) same
+      (subst (λ (l : List Protocol). AreLinesByEach says by o front g l lines) (take_all i ps past) each)),
+  printed,
+)
+
 -- the lines of a graph's sweep behind the head line are its text
-pub swept_behind : (p : Protocol) (o : SweepOptions) (g : Shape) (l : Layout) (by : Option By) (front old new : List ℕ) →
-    l ≡ layout_by p →
-    by ≡ by_of p o →
+pub swept_behind : (ps : List Protocol) (o : SweepOptions) (g : Shape) (front old new : List ℕ) →
     front ≡ bare_front o.form →
-    old ≡ head_by l by o.form o.sheet →
-    (lines : List ℕ) × AreLines p (by_of p o) o front g lines × (new ≡ old ++ lines) →
-    IsSwept p o g new
-swept_behind p o g l by front old new laid same bare head (lines, are, printed) = record {
+    old ≡ heads_of ps o →
+    (lines : List ℕ) × AreLinesBy ps o front g lines × (new ≡ old ++ lines) →
+    IsSwept ps o g new
+swept_behind ps o g front old new bare head (lines, are, printed) = record {
   lines = lines;
-  are = subst (λ (f : List ℕ). AreLines p (by_of p o) o f g lines) bare are;
-  printed = printed
-      ∙ ap (λ (h : List ℕ). h ++ lines)
-      (head ∙ ap (λ (x : Layout). head_by x by o.form o.sheet) laid ∙ ap (λ (b : Option By). head_by (layout_by p) b o.form o.sheet) same);
+  are = subst (λ (f : List ℕ). AreLinesBy ps o f g lines) bare are;
+  printed = printed ∙ ap (λ (h : List ℕ). h ++ lines) head;
 }
 
 -- the lines of runs, where no parts are asked for
 pub lines_of_runs : (p : Protocol) (o : SweepOptions) (by : Option By) (front : List ℕ) (g : Shape) (old new : List ℕ) →
-    by ≡ by_of p o →
     by ≡ None →
     (lines : List ℕ) × AreSweptLines p o front g lines × (new ≡ old ++ lines) →
-    (lines : List ℕ) × AreLines p (by_of p o) o front g lines × (new ≡ old ++ lines)
-lines_of_runs p o by front g old new same is (lines, are, printed) =
-    (lines, subst (λ (b : Option By). AreLines p b o front g lines) (sym is ∙ same) are, printed)
+    (lines : List ℕ) × AreLines p by o front g lines × (new ≡ old ++ lines)
+lines_of_runs p o by front g old new is (lines, are, printed) =
+    (lines, subst (λ (b : Option By). AreLines p b o front g lines) (sym is) are, printed)
 
 -- and those of their parts
 pub lines_of_parts : (p : Protocol) (o : SweepOptions) (by : Option By) (part : By) (front : List ℕ) (g : Shape) (old new : List ℕ) →
-    by ≡ by_of p o →
     by ≡ Some part →
     (lines : List ℕ) × ArePartedRuns o part front g o.seeds.first (count_of o) lines × (new ≡ old ++ lines) →
-    (lines : List ℕ) × AreLines p (by_of p o) o front g lines × (new ≡ old ++ lines)
-lines_of_parts p o by part front g old new same is (lines, are, printed) =
-    (lines, subst (λ (b : Option By). AreLines p b o front g lines) (sym is ∙ same) are, printed)
+    (lines : List ℕ) × AreLines p by o front g lines × (new ≡ old ++ lines)
+lines_of_parts p o by part front g old new is (lines, are, printed) =
+    (lines, subst (λ (b : Option By). AreLines p b o front g lines) (sym is) are, printed)

@@ -1,5 +1,5 @@
--- What the sweep of a network prints: lines, or a chart, whose panel shows how figures of its runs lie by the bound.
-use Rattle.std.specs.Prelude.{◌≡◌, ℕ, List, [], ◌++◌, length}
+-- What the sweep of a network prints: lines, or a chart, whose panels show how figures of its runs lie by the bound.
+use Rattle.std.specs.Prelude.{◌≡◌, ℕ, ◌+◌, Bool, List, [], ◌∷◌, ◌++◌, length}
 use Rattle.ghs_graph.specs.Graph.{Shape}
 use Rattle.ghs_chart.specs.Chart.{chart_head, panel_text}
 use Rattle.ghs_chart.specs.declared.panel.Caption.{Caption}
@@ -11,6 +11,7 @@ use Rattle.peer_trace.specs.declared.protocol.Protocol.{Protocol}
 use Rattle.ghs_commands.specs.declared.job.Sheet.{Sheet}
 use Rattle.ghs_commands.specs.declared.job.Sheet.TheVariants.{Chart, Runs, Summary}
 use Rattle.ghs_commands.specs.declared.job.SweepOptions.{SweepOptions}
+use Rattle.ghs_cli.specs.Fronts.{are_several, panel_name}
 use Rattle.ghs_cli.specs.Swept.{AreRunsBy, IsBoundBy, setup_of}
 use Rattle.ghs_cli.specs.Sweeping.{IsSwept, count_of}
 
@@ -40,14 +41,24 @@ pub record IsPanel (p : Protocol) (o : SweepOptions) (place : ℕ) (name : List 
   pub all : length runs ≡ count_of o
   pub drawn : IsPanelOf p place name g runs panel
 
--- the chart of one network without its name
-pub record IsNamelessChart (p : Protocol) (o : SweepOptions) (g : Shape) (text : List ℕ) : Type 0 where
-  pub panel : List ℕ
-  pub is : IsPanel p o 0 [] g panel
-  pub printed : text ≡ chart_head 1 ++ panel ++ CHART_TAIL.now
+-- the panels of a network's sweeps by protocols, from a place on, one's below another's
+pub data ArePanelsByEach (several : Bool) (o : SweepOptions) (place : ℕ) (name : List ℕ) (g : Shape) : List Protocol → List ℕ → Type 0 where
+  NoPanel : ArePanelsByEach several o place name g [] []
+  NextPanel : (ps : List Protocol) (p : Protocol) (text panel : List ℕ) → ArePanelsByEach several o place name g ps text →
+      IsPanel p o (place + length ps) (panel_name several name p) g panel →
+      ArePanelsByEach several o place name g (ps ++ p ∷ []) (text ++ panel)
 
--- what a sweep of a graph prints: lines, or a chart
-abbrev pub IsSweepText : Protocol → Sheet → SweepOptions → Shape → List ℕ → Type 0
-IsSweepText p Runs o g text = IsSwept p o g text
-IsSweepText p Summary o g text = IsSwept p o g text
-IsSweepText p Chart o g text = IsNamelessChart p o g text
+abbrev pub ArePanelsBy : List Protocol → SweepOptions → ℕ → List ℕ → Shape → List ℕ → Type 0
+ArePanelsBy ps o place name g panels = ArePanelsByEach (are_several ps) o place name g ps panels
+
+-- the chart of one network without its name
+pub record IsNamelessChart (ps : List Protocol) (o : SweepOptions) (g : Shape) (text : List ℕ) : Type 0 where
+  pub panels : List ℕ
+  pub each : ArePanelsBy ps o 0 [] g panels
+  pub printed : text ≡ chart_head (length ps) ++ panels ++ CHART_TAIL.now
+
+-- what a sweep of a graph by protocols prints: lines, or a chart
+abbrev pub IsSweepText : List Protocol → Sheet → SweepOptions → Shape → List ℕ → Type 0
+IsSweepText ps Runs o g text = IsSwept ps o g text
+IsSweepText ps Summary o g text = IsSwept ps o g text
+IsSweepText ps Chart o g text = IsNamelessChart ps o g text

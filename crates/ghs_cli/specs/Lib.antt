@@ -5,6 +5,7 @@ pub mod AnyView
 pub mod Charts
 pub mod Exploring
 pub mod Fault
+pub mod Fronts
 pub mod Judging
 pub mod Networks
 pub mod Printing

@@ -30,6 +30,7 @@ use Rattle.ghs_commands.specs.declared.job.Task.{Task}
 use Rattle.ghs_commands.specs.declared.job.Task.TheVariants as task
 use Rattle.ghs_cli.specs.declared.fault.ServeFault.{ServeFault}
 use Rattle.ghs_cli.specs.declared.fault.ServeFault.TheVariants as serve
+use Rattle.ghs_cli.specs.Charts.{IsSweepText}
 use Rattle.ghs_cli.specs.Running.{HaveCores}
 use Rattle.ghs_cli.specs.Stepping.{CantTell}
 use Rattle.ghs_cli.specs.Verbs.{verbs_of}
@@ -191,7 +192,7 @@ meaning_of (task.Replay p wake) = of_both p wake ((verbs_of p).replays wake) ((v
 meaning_of (task.Steps p o) = record (of_both p o.wake ((verbs_of p).tells o) (λ g events. CantTell ((verbs_of p).is_unlawful o.wake g events))) {
   by_portions = true;
 }
-meaning_of (task.Sweep p o) = of_input (IsOfText o.wake ((verbs_of p).sweeps o)) (IsGraphCause o.wake)
+meaning_of (task.Sweep ps o) = of_input (IsOfText o.wake (IsSweepText ps.items o.sheet o)) (IsGraphCause o.wake)
 meaning_of (task.View p o) = of_input (IsOfText o.wake ((verbs_of p).views o)) (IsTextCause o.wake ((verbs_of p).cant_view o))
 meaning_of (task.StoredView p o) = of_both p o.wake ((verbs_of p).views_stored o) ((verbs_of p).cant_view_stored o)
 meaning_of (task.Explore p o) = of_input (IsOfText o.wake ((verbs_of p).explores o)) (IsTextCause o.wake ((verbs_of p).cant_explore o))

@@ -1,5 +1,5 @@
 -- Sweeps of a graph.
-use Rattle.std.specs.Prelude.{◌≡◌, ℕ, ◌+◌, ◌-◌, List, [], ◌++◌, length, Option, Some, None}
+use Rattle.std.specs.Prelude.{◌≡◌, ℕ, ◌+◌, ◌-◌, Bool, List, [], ◌∷◌, ◌++◌, length, Option, Some, None}
 use Rattle.ghs_graph.specs.Graph.{Shape}
 use Rattle.peer_network.specs.declared.event.Event.{Event}
 use Rattle.ghs_picking.specs.Picking.{IsPickedBy}
@@ -17,9 +17,11 @@ use Rattle.peer_sweep.specs.Line.{head_line as names_line}
 use Rattle.peer_sweep.specs.Lines.{line_behind, run_lines}
 use Rattle.peer_sweep.specs.Summary.{AreSummaryLines}
 use Rattle.peer_trace.specs.declared.protocol.Protocol.{Protocol}
+use Rattle.peer_trace.specs.declared.protocol.Protocol.TheVariants as protocol
 use Rattle.ghs_commands.specs.declared.job.Sheet.{Sheet}
 use Rattle.ghs_commands.specs.declared.job.Sheet.TheVariants.{Chart, Runs, Summary}
 use Rattle.ghs_commands.specs.declared.job.SweepOptions.{SweepOptions}
+use Rattle.ghs_cli.specs.Fronts.{front_by, protocol_head, says_protocol}
 use Rattle.ghs_cli.specs.Swept.{AreRunsBy, by_of, layout_by, setup_of}
 
 -- how many runs it has: one for each seed
@@ -59,7 +61,7 @@ pub data ArePartedRuns (o : SweepOptions) (by : By) (front : List ℕ) (g : Shap
   NextRun : (n : ℕ) (text lines : List ℕ) → ArePartedRuns o by front g first n text → IsPartedRun o by front g (first + n) lines →
       ArePartedRuns o by front g first (n + 1) (text ++ lines)
 
--- the lines of the sweep of a graph: of its runs, or of their parts
+-- the lines of the sweep of a graph by a protocol: of its runs, or of their parts
 abbrev pub AreLines : Protocol → Option By → SweepOptions → List ℕ → Shape → List ℕ → Type 0
 AreLines p None o front g lines = AreSweptLines p o front g lines
 AreLines p (Some by) o front g lines = ArePartedRuns o by front g o.seeds.first (count_of o) lines
@@ -70,8 +72,21 @@ head_by l None form sheet = head_of l form sheet
 head_by l (Some by) Text sheet = head_line by
 head_by l (Some by) Json sheet = []
 
--- the text of the sweep that options ask for
-pub record IsSwept (p : Protocol) (o : SweepOptions) (g : Shape) (text : List ℕ) : Type 0 where
+-- the lines of the sweeps of a graph by protocols, one's behind another's
+pub data AreLinesByEach (says : Bool) (by : Option By) (o : SweepOptions) (front : List ℕ) (g : Shape) : List Protocol → List ℕ → Type 0 where
+  NoProtocol : AreLinesByEach says by o front g [] []
+  NextProtocol : (ps : List Protocol) (p : Protocol) (text lines : List ℕ) → AreLinesByEach says by o front g ps text →
+      AreLines p by o (front_by says o.form front p) g lines → AreLinesByEach says by o front g (ps ++ p ∷ []) (text ++ lines)
+
+abbrev pub AreLinesBy : List Protocol → SweepOptions → List ℕ → Shape → List ℕ → Type 0
+AreLinesBy ps o front g lines = AreLinesByEach (says_protocol o.sheet ps) (by_of ps o) o front g ps lines
+
+-- the names of their columns, which are the same for each protocol
+abbrev pub heads_of : List Protocol → SweepOptions → List ℕ
+heads_of ps o = protocol_head (says_protocol o.sheet ps) o.form ++ head_by (layout_by protocol.Ghs) (by_of ps o) o.form o.sheet
+
+-- the text of the sweep by protocols that options ask for
+pub record IsSwept (ps : List Protocol) (o : SweepOptions) (g : Shape) (text : List ℕ) : Type 0 where
   pub lines : List ℕ
-  pub are : AreLines p (by_of p o) o (bare_front o.form) g lines
-  pub printed : text ≡ head_by (layout_by p) (by_of p o) o.form o.sheet ++ lines
+  pub are : AreLinesBy ps o (bare_front o.form) g lines
+  pub printed : text ≡ heads_of ps o ++ lines

@@ -73,7 +73,7 @@ schedule_by _ o = Seeded
 abbrev pub setup_of : Protocol → SweepOptions → Setup
 setup_of p o = record { schedule_kind = schedule_by p o; wake = o.wake; turns = o.turns }
 
--- by which parts messages are counted: GHS alone has any
-abbrev pub by_of : Protocol → SweepOptions → Option By
-by_of protocol.Ghs o = o.by
+-- by which parts messages are counted: sweeps by GHS alone have any
+abbrev pub by_of : List Protocol → SweepOptions → Option By
+by_of (protocol.Ghs ∷ []) o = o.by
 by_of _ o = None

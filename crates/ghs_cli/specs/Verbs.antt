@@ -24,7 +24,6 @@ use Rattle.ghs_commands.specs.declared.exploring.ExploreOptions.{ExploreOptions}
 use Rattle.ghs_commands.specs.declared.job.RunOptions.{RunOptions}
 use Rattle.ghs_commands.specs.declared.job.StepsOptions.{StepsOptions}
 use Rattle.ghs_commands.specs.declared.job.StoredViewOptions.{StoredViewOptions}
-use Rattle.ghs_commands.specs.declared.job.SweepOptions.{SweepOptions}
 use Rattle.ghs_commands.specs.declared.job.ViewOptions.{ViewOptions}
 use Rattle.ghs_sched.specs.Replays as ghs
 use Rattle.peer_runs.specs.Replays.{IsFirstUnlawful}
@@ -33,7 +32,6 @@ use Rattle.ghs_cli.specs.declared.fault.ServeFault.TheVariants as serve
 use Rattle.ghs_cli.specs.AnyExplore as any_explore
 use Rattle.ghs_cli.specs.AnyRun as any_run
 use Rattle.ghs_cli.specs.AnyView as any_view
-use Rattle.ghs_cli.specs.Charts as charts
 use Rattle.ghs_cli.specs.Exploring as exploring
 use Rattle.ghs_cli.specs.Running as running
 use Rattle.ghs_cli.specs.Viewing as viewing
@@ -49,8 +47,6 @@ pub record Verbs : Type 1 where
   pub cant_replay : WakeSet → Shape → List Event → ServeFault → Type 0
   pub is_unlawful : WakeSet → Shape → List Event → ℕ → Type 0
   pub tells : StepsOptions → Shape → List Event → List ℕ → Type 0
-  -- a sweep
-  pub sweeps : SweepOptions → Shape → List ℕ → Type 0
   -- the page of a run, and that of a stored one
   pub views : ViewOptions → Shape → List ℕ → Type 0
   pub cant_view : ViewOptions → Shape → ServeFault → Type 0
@@ -70,7 +66,6 @@ ghs_verbs = record {
   cant_replay = running.IsRunCause;
   is_unlawful = λ wake g. ghs.IsFirstUnlawful g wake;
   tells = running.AreSteps;
-  sweeps = λ o. charts.IsSweepText protocol.Ghs o.sheet o;
   views = viewing.IsView;
   cant_view = viewing.HasNoView;
   views_stored = viewing.IsStoredView;
@@ -93,7 +88,6 @@ module _ {S M : Type 0} (r : Rules S M) (has_ended : Shape → Net S M → Type 
     cant_replay = any_run.IsRunCause r has_ended;
     is_unlawful = λ wake g. IsFirstUnlawful r g wake;
     tells = any_run.AreSteps r words;
-    sweeps = λ o. charts.IsSweepText p o.sheet o;
     views = any_view.IsView r is_page has_ended is_pair_page;
     cant_view = any_view.HasNoView r has_ended;
     views_stored = any_view.IsStoredView r is_page;

@@ -16,6 +16,7 @@ mod beside;
 mod charting;
 mod exploring;
 pub mod fault;
+mod fronts;
 pub mod judging;
 mod making;
 pub mod networks;

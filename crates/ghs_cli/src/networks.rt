@@ -1,7 +1,6 @@
 //! Sweeps of several networks, whose lines begin with names.
 ghost use Rattle.ghs_commands.specs.Job.{AreSweepLimits};
 ghost use Rattle.ghs_cli.specs.Networks.{AreLinesOf, AreLinesOfAll, HasSwept, IsNetworksText, IsSweepOf, front_head};
-ghost use Rattle.ghs_cli.specs.Swept.{by_of, layout_by};
 ghost use Rattle.ghs_cli.specs.Serving.{IsGraphCause, IsTextOf, IsWrite};
 ghost use Rattle.ghs_cli.specs.declared.fault.ServeFault.{ServeFault};
 ghost use Rattle.std.specs.Prelude.{◌≡◌, ◌++◌, ◌↔◌, List, ℕ, false, string_bytes, true, IfErr, IfOk, IfSome, IsErrOf};
@@ -10,8 +9,7 @@ use crate::charting::chart_text;
 use crate::fault::ServeFault;
 use crate::progress::tell_networks;
 use crate::reading::graph_of;
-use crate::sweeping::{put_head_by, put_lines_of};
-use crate::swept::{by_of, table_by};
+use crate::sweeping::{put_heads, put_lines_by};
 use ghs_choices::form::Form;
 use ghs_commands::job::{Sheet, SweepOptions};
 use ghs_gr::device::{Sink, Source};
@@ -19,7 +17,6 @@ use ghs_graph::graph::Graph;
 use ghs_report::write_out::write_out;
 use peer_network::wake_set::WakeSet;
 use peer_sweep::front::{FRONT_HEAD, front_of};
-use peer_sweep::table::Table;
 use peer_trace::protocol::Protocol;
 use std::alloc::{AllocError, Global};
 use std::thread::Threads;
@@ -50,29 +47,29 @@ pub fn read_network<S: Source>(
     Ok(Network { name, graph })
 }
 
-/// Sweeps networks, and writes the text: one head line, and the lines of each network behind its name, in the order of the
-/// networks. Threads share the runs of one network after another. The text is made whole before its first byte goes out,
+/// Sweeps networks by protocols, and writes the text: one head line, and the lines of each network behind its name, in the
+/// order of the networks, those of each in the order of the protocols. Threads share the runs of one network after another. The text is made whole before its first byte goes out,
 /// and it is the same for every number of threads. Faults: lack of memory, and then a write that fails.
 ///
 /// ```text
 /// networks.push(read_network(alloc, "star.gr", WakeSet::All, &mut Device::of(file))?)?;
-/// sweep_networks(rt, alloc, Protocol::Ghs, &options, &networks, &mut out)?;
+/// sweep_networks(rt, alloc, &[Protocol::Ghs], &options, &networks, &mut out)?;
 /// // a head line that begins with graph, and a line for each network and seed
 /// ```
 pub fn sweep_networks<W: Sink, H: Threads + Sync + Eprint>(
     rt: &H,
     alloc: Global,
-    protocol: Protocol,
+    protocols: &[Protocol],
     options: &SweepOptions,
     networks: &[Network],
     out: &mut W,
 ) -> Result<(), ServeFault>
     requires limits { AreSweepLimits options.now }
     requires out { W.has_failed out.old ≡ false }
-    ensures swept { HasSwept protocol options.now networks.now (W.held out.old) (W.held out.new) result }
+    ensures swept { HasSwept protocols.now options.now networks.now (W.held out.old) (W.held out.new) result }
     ensures write { IsWrite result ↔ (W.has_failed out.new ≡ true) }
 {
-    let text = sweep_text(rt, alloc, protocol, options, networks)?;
+    let text = sweep_text(rt, alloc, protocols, options, networks)?;
     write_out(out, &text)?;
     Ok(())
 }
@@ -81,16 +78,16 @@ pub fn sweep_networks<W: Sink, H: Threads + Sync + Eprint>(
 fn sweep_text<H: Threads + Sync + Eprint>(
     rt: &H,
     alloc: Global,
-    protocol: Protocol,
+    protocols: &[Protocol],
     options: &SweepOptions,
     networks: &[Network],
 ) -> Result<Vec<u8>, AllocError>
     requires { AreSweepLimits options.now }
-    ensures { IfOk result (λ text. IsSweepOf protocol options.now.sheet options.now networks.now text.items) }
+    ensures { IfOk result (λ text. IsSweepOf protocols.now options.now.sheet options.now networks.now text.items) }
 {
     match options.sheet {
-        Sheet::Runs | Sheet::Summary => networks_text(rt, alloc, protocol, options, networks),
-        Sheet::Chart => chart_text(rt, alloc, protocol, options, networks),
+        Sheet::Runs | Sheet::Summary => networks_text(rt, alloc, protocols, options, networks),
+        Sheet::Chart => chart_text(rt, alloc, protocols, options, networks),
     }
 }
 
@@ -98,17 +95,16 @@ fn sweep_text<H: Threads + Sync + Eprint>(
 fn networks_text<H: Threads + Sync + Eprint>(
     rt: &H,
     alloc: Global,
-    protocol: Protocol,
+    protocols: &[Protocol],
     options: &SweepOptions,
     networks: &[Network],
 ) -> Result<Vec<u8>, AllocError>
     requires { AreSweepLimits options.now }
-    ensures { IfOk result (λ text. IsNetworksText protocol options.now networks.now text.items) }
+    ensures { IfOk result (λ text. IsNetworksText protocols.now options.now networks.now text.items) }
 {
-    let table = table_by(alloc, protocol)?;
     let mut text = Vec::from_slice(alloc, front_head(options.form))?;
-    put_head_by(&mut text, &table, by_of(protocol, options), options)?;
-    put_networks(rt, alloc, &mut text, protocol, options, &table, networks)?;
+    put_heads(alloc, &mut text, protocols, options)?;
+    put_networks(rt, alloc, &mut text, protocols, options, networks)?;
     Ok(text)
 }
 
@@ -118,17 +114,15 @@ fn put_networks<H: Threads + Sync + Eprint>(
     rt: &H,
     alloc: Global,
     text: &mut Vec<u8>,
-    protocol: Protocol,
+    protocols: &[Protocol],
     options: &SweepOptions,
-    table: &Table,
     networks: &[Network],
 ) -> Result<(), AllocError>
-    requires limits { AreSweepLimits options.now }
-    requires table { table.now ≡ layout_by protocol }
-    ensures { IfOk result (λ _. (lines : List ℕ) × AreLinesOfAll protocol options.now networks.now lines × (text.new.items ≡ text.old.items ++ lines)) }
+    requires { AreSweepLimits options.now }
+    ensures { IfOk result (λ _. (lines : List ℕ) × AreLinesOfAll protocols.now options.now networks.now lines × (text.new.items ≡ text.old.items ++ lines)) }
 {
     for (place, network) in networks.iter().enumerate() {
-        put_network(rt, alloc, text, protocol, options, table, network)?;
+        put_network(rt, alloc, text, protocols, options, network)?;
         tell_networks(rt, options.progress, place + 1, networks.len());
     }
     Ok(())
@@ -149,25 +143,15 @@ fn put_network<H: Threads + Sync + Eprint>(
     rt: &H,
     alloc: Global,
     text: &mut Vec<u8>,
-    protocol: Protocol,
+    protocols: &[Protocol],
     options: &SweepOptions,
-    table: &Table,
     network: &Network,
 ) -> Result<(), AllocError>
-    requires limits { AreSweepLimits options.now }
-    requires table { table.now ≡ layout_by protocol }
-    ensures { IfOk result (λ _. (lines : List ℕ) × AreLinesOf protocol options.now network.now lines × (text.new.items ≡ text.old.items ++ lines)) }
+    requires { AreSweepLimits options.now }
+    ensures { IfOk result (λ _. (lines : List ℕ) × AreLinesOf protocols.now options.now network.now lines × (text.new.items ≡ text.old.items ++ lines)) }
 {
     let front = front_of(alloc, options.form, network.name.as_str())?;
-    put_lines_of(
-        rt,
-        alloc,
-        text,
-        protocol,
-        options,
-        table,
-        &front,
-        &network.graph,
-    )?;
+    let graph = &network.graph;
+    put_lines_by(rt, alloc, text, protocols, options, &front, graph)?;
     Ok(())
 }

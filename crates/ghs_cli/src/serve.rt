@@ -70,8 +70,8 @@ pub fn serve<R: Source, T: Source, W: Sink, H: Threads + Wait + Eprint + Sync>(
         Task::Steps { protocol, options } => {
             write_steps_of(alloc, *protocol, options, graph, trace, out)
         }
-        Task::Sweep { protocol, options } => {
-            print(sweep_text_of(rt, alloc, *protocol, options, graph), out)
+        Task::Sweep { protocols, options } => {
+            print(sweep_text_of(rt, alloc, protocols, options, graph), out)
         }
         Task::View { protocol, options } => {
             print(view_text_of(alloc, *protocol, options, graph), out)

@@ -2,15 +2,15 @@
 ghost use Rattle.ghs_commands.specs.Job.{AreSweepLimits};
 ghost use Rattle.ghs_cli.specs.Charts.{IsSweepText};
 ghost use Rattle.ghs_cli.specs.Serving.{IsGraphCause, IsOfText, is_write};
-ghost use Rattle.ghs_cli.specs.Swept.{AreRunsBy, by_of, layout_by, setup_of};
-ghost use Rattle.ghs_cli.specs.Sweeping.{AreLines, AreSheetLines, AreSweptLines, IsSwept, count_of, head_by, head_of};
-ghost use Rattle.ghs_cli.specs.Verbs.{verbs_of};
+ghost use Rattle.ghs_cli.specs.Swept.{AreRunsBy, setup_of};
+ghost use Rattle.ghs_cli.specs.Sweeping.{AreLines, AreLinesBy, AreSheetLines, AreSweptLines, IsSwept, count_of, head_by, head_of, heads_of};
 ghost use Rattle.peer_sweep.specs.Figures.{LeavesRoom};
 ghost use Rattle.ghs_cli.specs.declared.fault.ServeFault.{ServeFault};
 ghost use Rattle.std.specs.Prelude.{◌≡◌, ◌≤◌, ◌++◌, ◌↔◌, All, List, ℕ, false, length, true, IfErr, IfOk, IfSome, IsErrOf};
 
 use crate::charting::nameless_chart;
 use crate::fault::ServeFault;
+use crate::fronts::{front_by, protocol_head, says_protocol};
 use crate::parting::put_parted;
 use crate::progress::tell_seeds;
 use crate::reading::graph_of;
@@ -36,39 +36,39 @@ use std::thread::Threads;
 /// How many events the runs of one thread have in a batch, more or less: about a second's.
 const BATCH: u64 = 4_000_000;
 
-/// The text of a sweep of the graph that the device gives.
+/// The text of the sweeps by protocols of the graph that the device gives.
 pub(crate) fn sweep_text_of<S: Source, R: Threads + Sync + Eprint>(
     rt: &R,
     alloc: Global,
-    protocol: Protocol,
+    protocols: &[Protocol],
     options: &SweepOptions,
     graph: &mut S,
 ) -> Result<Vec<u8>, ServeFault>
     requires limits { AreSweepLimits options.now }
     requires graph { S.has_failed graph.old ≡ false }
-    ensures text { IfOk result (λ text. IfSome (S.left graph.old) (λ input. IsOfText options.now.wake ((verbs_of protocol).sweeps options.now) input text.items)) }
+    ensures text { IfOk result (λ text. IfSome (S.left graph.old) (λ input. IsOfText options.now.wake (IsSweepText protocols.now options.now.sheet options.now) input text.items)) }
     ensures fault { IfErr result (λ fault. IfSome (S.left graph.old) (λ input. IsGraphCause options.now.wake input fault)) }
     ensures early { IfErr result (λ fault. is_write fault ≡ false) }
     ensures read { IsErrOf result ServeFault.Read ↔ (S.has_failed graph.new ≡ true) }
 {
     let graph = graph_of(alloc, options.wake, graph)?;
-    Ok(sweep_text(rt, alloc, protocol, options, &graph)?)
+    Ok(sweep_text(rt, alloc, protocols, options, &graph)?)
 }
 
-/// What a sweep of a graph by a protocol prints: lines, or a chart.
+/// What a sweep of a graph by protocols prints: lines, or a chart.
 fn sweep_text<R: Threads + Sync + Eprint>(
     rt: &R,
     alloc: Global,
-    protocol: Protocol,
+    protocols: &[Protocol],
     options: &SweepOptions,
     graph: &Graph,
 ) -> Result<Vec<u8>, AllocError>
     requires { AreSweepLimits options.now }
-    ensures { IfOk result (λ text. IsSweepText protocol options.now.sheet options.now graph.now text.items) }
+    ensures { IfOk result (λ text. IsSweepText protocols.now options.now.sheet options.now graph.now text.items) }
 {
     match options.sheet {
-        Sheet::Runs | Sheet::Summary => swept_text(rt, alloc, protocol, options, graph),
-        Sheet::Chart => nameless_chart(rt, alloc, protocol, options, graph),
+        Sheet::Runs | Sheet::Summary => swept_text(rt, alloc, protocols, options, graph),
+        Sheet::Chart => nameless_chart(rt, alloc, protocols, options, graph),
     }
 }
 
@@ -76,25 +76,37 @@ fn sweep_text<R: Threads + Sync + Eprint>(
 fn swept_text<R: Threads + Sync + Eprint>(
     rt: &R,
     alloc: Global,
-    protocol: Protocol,
+    protocols: &[Protocol],
     options: &SweepOptions,
     graph: &Graph,
 ) -> Result<Vec<u8>, AllocError>
     requires { AreSweepLimits options.now }
-    ensures { IfOk result (λ text. IsSwept protocol options.now graph.now text.items) }
+    ensures { IfOk result (λ text. IsSwept protocols.now options.now graph.now text.items) }
 {
-    let table = table_by(alloc, protocol)?;
     let mut text = Vec::new(alloc);
-    put_head_by(&mut text, &table, by_of(protocol, options), options)?;
+    put_heads(alloc, &mut text, protocols, options)?;
     let front = bare_front(options.form);
-    put_lines_of(
-        rt, alloc, &mut text, protocol, options, &table, front, graph,
-    )?;
+    put_lines_by(rt, alloc, &mut text, protocols, options, front, graph)?;
     Ok(text)
 }
 
-/// Puts the names of the columns behind a text, as a line, of runs or of their parts.
-pub(crate) fn put_head_by(
+/// Puts the names of the columns behind a text, as a line. They are the same for each protocol. Refusal: out of memory.
+pub(crate) fn put_heads(
+    alloc: Global,
+    text: &mut Vec<u8>,
+    protocols: &[Protocol],
+    options: &SweepOptions,
+) -> Result<(), AllocError>
+    ensures { IfOk result (λ _. text.new.items ≡ text.old.items ++ heads_of protocols.now options.now) }
+{
+    let table = table_by(alloc, Protocol::Ghs)?;
+    let says = says_protocol(options.sheet, protocols);
+    text.extend_from_slice(protocol_head(says, options.form))?;
+    put_head_by(text, &table, by_of(protocols, options), options)
+}
+
+/// The same without a protocol's, of runs or of their parts.
+fn put_head_by(
     text: &mut Vec<u8>,
     table: &Table,
     by: Option<By>,
@@ -109,31 +121,46 @@ pub(crate) fn put_head_by(
     }
 }
 
-/// Puts the lines of the sweep of a graph behind a text, of its runs or of their parts, each behind the same front. Refusal:
-/// out of memory.
-pub(crate) fn put_lines_of<R: Threads + Sync + Eprint>(
+/// Puts the lines of the sweeps of a graph by protocols behind a text, each behind the same front. Refusal: out of memory.
+pub(crate) fn put_lines_by<R: Threads + Sync + Eprint>(
+    rt: &R,
+    alloc: Global,
+    text: &mut Vec<u8>,
+    protocols: &[Protocol],
+    options: &SweepOptions,
+    front: &[u8],
+    graph: &Graph,
+) -> Result<(), AllocError>
+    requires { AreSweepLimits options.now }
+    ensures { IfOk result (λ _. (lines : List ℕ) × AreLinesBy protocols.now options.now front.now graph.now lines × (text.new.items ≡ text.old.items ++ lines)) }
+{
+    let says = says_protocol(options.sheet, protocols);
+    let by = by_of(protocols, options);
+    for protocol in protocols {
+        let own = front_by(alloc, says, options.form, front, *protocol)?;
+        put_lines_of(rt, alloc, text, *protocol, by, options, &own, graph)?;
+    }
+    Ok(())
+}
+
+/// Puts the lines of the sweep of a graph by a protocol behind a text, of its runs or of their parts, each behind the same
+/// front.
+fn put_lines_of<R: Threads + Sync + Eprint>(
     rt: &R,
     alloc: Global,
     text: &mut Vec<u8>,
     protocol: Protocol,
+    by: Option<By>,
     options: &SweepOptions,
-    table: &Table,
     front: &[u8],
     graph: &Graph,
 ) -> Result<(), AllocError>
-    requires limits { AreSweepLimits options.now }
-    requires table { table.now ≡ layout_by protocol }
-    ensures { IfOk result (λ _. (lines : List ℕ) × AreLines protocol (by_of protocol options.now) options.now front.now graph.now lines × (text.new.items ≡ text.old.items ++ lines)) }
+    requires { AreSweepLimits options.now }
+    ensures { IfOk result (λ _. (lines : List ℕ) × AreLines protocol by options.now front.now graph.now lines × (text.new.items ≡ text.old.items ++ lines)) }
 {
-    match by_of(protocol, options) {
-        None => {
-            put_swept(rt, alloc, text, protocol, options, table, front, graph)?;
-            Ok(())
-        }
-        Some(by) => {
-            put_parted(rt, alloc, text, options, by, front, graph)?;
-            Ok(())
-        }
+    match by {
+        None => put_swept(rt, alloc, text, protocol, options, front, graph),
+        Some(by) => put_parted(rt, alloc, text, options, by, front, graph),
     }
 }
 
@@ -156,17 +183,16 @@ fn put_swept<R: Threads + Sync + Eprint>(
     text: &mut Vec<u8>,
     protocol: Protocol,
     options: &SweepOptions,
-    table: &Table,
     front: &[u8],
     graph: &Graph,
 ) -> Result<(), AllocError>
-    requires limits { AreSweepLimits options.now }
-    requires table { table.now ≡ layout_by protocol }
+    requires { AreSweepLimits options.now }
     ensures { IfOk result (λ _. (lines : List ℕ) × AreSweptLines protocol options.now front.now graph.now lines × (text.new.items ≡ text.old.items ++ lines)) }
 {
+    let table = table_by(alloc, protocol)?;
     let runs = runs_of(rt, alloc, protocol, graph, options)?;
     let setup = setup_of(protocol, options);
-    put_sheet(alloc, text, options, setup, table, front, &runs)?;
+    put_sheet(alloc, text, options, setup, &table, front, &runs)?;
     Ok(())
 }
 

@@ -118,12 +118,12 @@ fn schedule_by(protocol: Protocol, options: &SweepOptions) -> ScheduleKind
     }
 }
 
-/// By which parts messages are counted.
-pub(crate) fn by_of(protocol: Protocol, options: &SweepOptions) -> Option<By>
-    ensures { result ≡ by_of protocol options.now }
+/// By which parts messages are counted: sweeps by GHS alone have any.
+pub(crate) fn by_of(protocols: &[Protocol], options: &SweepOptions) -> Option<By>
+    ensures { result ≡ by_of protocols.now options.now }
 {
-    match protocol {
-        Protocol::Ghs => options.by,
+    match protocols {
+        [Protocol::Ghs] => options.by,
         _ => None,
     }
 }

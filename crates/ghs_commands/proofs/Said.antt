@@ -1,6 +1,6 @@
 -- What is said of words that are no command line.
-use Rattle.std.proofs.Common.{◌≡◌, [], ◌∷◌, false, inl, refl, subst, ⊎_elim}
-use Rattle.clap.specs.Kinds.{Kinds, IsAmong, HasKind, or_else}
+use Rattle.std.proofs.Common.{◌≡◌, [], ◌∷◌, false, inl, refl, ⊎_elim}
+use Rattle.clap.specs.Kinds.{Kinds, HasKind, or_else}
 use Rattle.clap.specs.Values.{kind_of}
 use Rattle.clap.specs.declared.error.Error.{Error}
 use Rattle.clap.specs.declared.error.kind.ErrorKind.TheVariants as kind

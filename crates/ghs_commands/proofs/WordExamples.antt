@@ -4,7 +4,8 @@ use Rattle.clap.specs.declared.error.kind.ErrorKind.TheVariants as kind
 use Rattle.clap.proofs.OnLiterals.{clap_on_literals}
 use Rattle.clap.specs.Words.{Text}
 use Rattle.ghs_commands.specs.Grammar.{program}
-use Rattle.ghs_commands.specs.Job.{command_in, kinds_of, name_in, value_in}
+use Rattle.peer_trace.specs.declared.protocol.Protocol.TheVariants.{Boruvka, Ghs}
+use Rattle.ghs_commands.specs.Job.{command_in, kinds_of, name_in, protocols_in, value_in}
 
 tree-taken : kinds_of (codes "tree" ∷ []) ≡ []
 unfolding program clap_on_literals
@@ -158,3 +159,19 @@ one_file_in_step-taken = refl
 two_files_in_step-taken : kinds_of (in_step (codes "a" ∷ codes "b" ∷ [])) ≡ []
 unfolding program clap_on_literals
 two_files_in_step-taken = refl
+
+-- a sweep by protocols
+abbrev by_each : Text → List Text
+by_each protocols = codes "sweep" ∷ codes "--seeds" ∷ codes "1..2" ∷ codes "--protocol" ∷ protocols ∷ []
+
+protocols-named : protocols_in (command_in (by_each (codes "boruvka,ghs"))) ≡ Boruvka ∷ Ghs ∷ []
+unfolding program clap_on_literals
+protocols-named = refl
+
+protocols-not_given : protocols_in (command_in (codes "sweep" ∷ codes "--seeds" ∷ codes "1..2" ∷ [])) ≡ Ghs ∷ []
+unfolding program clap_on_literals
+protocols-not_given = refl
+
+named_twice-refused : kinds_of (by_each (codes "ghs,echo,ghs")) ≡ kind.InvalidValue ∷ []
+unfolding program clap_on_literals
+named_twice-refused = refl

@@ -40,6 +40,10 @@ option_rule name default = record (new_rule name) { long = Some name; defaults =
 abbrev pub protocol_rule : Rule
 protocol_rule = option_rule (codes "protocol") (codes "ghs")
 
+-- `--protocol` of a sweep, whose values are others: which protocols the nodes follow, one after another
+abbrev pub protocols_rule : Rule
+protocols_rule = record (new_rule (codes "protocols")) { long = Some (codes "protocol"); defaults = codes "ghs" ∷ [] }
+
 -- `--seed`: which schedule picks the events
 abbrev pub seed_rule : Rule
 seed_rule = option_rule (codes "seed") (codes "1")
@@ -141,12 +145,12 @@ book_rule = record (new_rule (codes "book")) { long = Some (codes "book"); requi
 abbrev pub judge_command : App
 judge_command = with_rules (trace_rule ∷ file_rule ∷ book_rule ∷ wake_rule ∷ []) (new_app (codes "judge"))
 
--- `sweep [FILE ..] [--protocol ghs|boruvka|echo] --seeds FIRST..LAST [--schedule seeded|patient|rounds|waits|lifo|round-robin] [--workers W]
+-- `sweep [FILE ..] [--protocol ghs|boruvka|echo,..] --seeds FIRST..LAST [--schedule seeded|patient|rounds|waits|lifo|round-robin] [--workers W]
 -- [--wake all|first|V,..] [--turns T] [--print runs|summary|chart] [--by node|level|rule] [--names] [--json] [--progress]`
 abbrev pub sweep_command : App
 sweep_command =
     with_rules
-    (files_rule ∷ protocol_rule ∷ seeds_rule ∷ schedule_rule ∷ workers_rule ∷ wake_rule
+    (files_rule ∷ protocols_rule ∷ seeds_rule ∷ schedule_rule ∷ workers_rule ∷ wake_rule
     ∷ turns_rule ∷ sheet_rule ∷ by_rule ∷ names_rule ∷ json_rule ∷ progress_rule ∷ [])
     (new_app (codes "sweep"))
 

@@ -46,7 +46,7 @@ use Rattle.peer_trace.specs.Protocol.{protocol_named}
 use Rattle.peer_trace.specs.declared.protocol.Protocol.{Protocol}
 use Rattle.peer_trace.specs.declared.protocol.Protocol.TheVariants.{Ghs}
 use Rattle.ghs_commands.specs.Parts.{by_named, go_together, is_part, is_said}
-use Rattle.ghs_commands.specs.Protocols.{is_protocol}
+use Rattle.ghs_commands.specs.Protocols.{are_ghs, are_protocols, is_protocol, protocols_of}
 use Rattle.ghs_commands.specs.TwoSeeds.{are_two, two_seeds_of}
 use Rattle.ghs_commands.specs.Wakers.{is_wake, wake_named}
 use Rattle.ghs_commands.specs.Values.{AreSeeds, are_apart, are_weights, is_among, is_kind, is_number, is_range, number_in, seeds_of}
@@ -171,6 +171,10 @@ pub record AreOptions (command : Used) (o : RunOptions) : Type 0 where
 abbrev pub protocol_in : Used → Protocol
 protocol_in command = unwrap_or (option_and_then protocol_named (value_in (codes "protocol") command)) Ghs
 
+-- the protocols that `--protocol` of a sweep names, in their order
+abbrev pub protocols_in : Used → List Protocol
+protocols_in command = protocols_of (unwrap_or (value_in (codes "protocols") command) (codes "ghs"))
+
 -- which runs a command asks to be swept
 pub record AreSweepOptions (command : Used) (o : SweepOptions) : Type 0 where
   pub seeds : o.seeds ≡ seeds_at command
@@ -277,13 +281,18 @@ pub record IsReplayOf (command : Used) (protocol : Protocol) : Type 0 where
   pub named : PlaysAgain (name_in command)
   pub by : protocol_in command ≡ protocol
 
+-- it is a sweep, and the protocols that it names are these
+pub record IsSweepOf (command : Used) (protocols : List Protocol) : Type 0 where
+  pub named : name_in command ≡ Some (codes "sweep")
+  pub by : protocols ≡ protocols_in command
+
 -- the task that a command asks for
 abbrev pub IsTask : Used → Task → Type 0
 IsTask command (task.Tree core) = IsNoOther command × IsCoreOf command core
 IsTask command (task.Run p options) = IsOf command (codes "run") p × AreOptions command options
 IsTask command (task.Replay p wake) = IsReplayOf command p × IsWake command wake
 IsTask command (task.Steps p options) = IsOf command (codes "steps") p × AreStepsOptions command options
-IsTask command (task.Sweep p options) = IsOf command (codes "sweep") p × AreSweepOptions command options
+IsTask command (task.Sweep ps options) = IsSweepOf command ps.items × AreSweepOptions command options
 IsTask command (task.View p options) = IsOf command (codes "view") p × IsOfSeed command × AreViewOptions command options
 IsTask command (task.StoredView p options) = IsOf command (codes "view") p × IsOfStored command × AreStoredViewOptions command options
 IsTask command (task.Explore p options) = IsOf command (codes "explore") p × AreExploreOptions command options
@@ -312,7 +321,7 @@ pub record AreExploreLimits (o : ExploreOptions) : Type 0 where
 -- a task's numbers are
 abbrev pub IsWithinLimits : Task → Type 0
 IsWithinLimits (task.Run p options) = AreWithinLimits options
-IsWithinLimits (task.Sweep p options) = AreSweepLimits options
+IsWithinLimits (task.Sweep ps options) = AreSweepLimits options
 IsWithinLimits (task.View p options) = AreViewLimits options
 IsWithinLimits (task.Explore p options) = AreExploreLimits options
 IsWithinLimits _ = Unit {0}
@@ -392,17 +401,19 @@ sweeps_so command = is_none (value_in (codes "by") command)
 abbrev pub fits_every : Used → Bool
 fits_every command = runs_so command && sweeps_so command
 
--- GHS goes with everything
-abbrev pub fits_by : Protocol → Used → Bool
-fits_by Ghs command = true
-fits_by _ command = fits_every command
+-- GHS alone goes with everything
+abbrev pub is_of_ghs : Used → Bool
+is_of_ghs command = are_ghs (value_in (codes "protocol") command) && are_ghs (value_in (codes "protocols") command)
 
 abbrev pub fits_protocol : Used → Bool
-fits_protocol command = fits_by (protocol_in command) command
+fits_protocol command = is_of_ghs command || fits_every command
 
--- there is such a protocol, and all that is asked for goes with it
+-- there is such a protocol, or are such protocols of a sweep, and all that is asked for goes with them
 abbrev pub has_protocol : Used → Bool
-has_protocol command = is_protocol (value_in (codes "protocol") command) && fits_protocol command
+has_protocol command =
+    is_protocol (value_in (codes "protocol") command)
+    && are_protocols (value_in (codes "protocols") command)
+    && fits_protocol command
 
 -- the figures of a sweep can be printed as it is asked for
 abbrev pub has_figures : Used → Bool

@@ -1,5 +1,5 @@
 -- The networks of a sweep.
-use Rattle.std.specs.Prelude.{ℕ, Bool, true, false, ◌||◌, nat_le, cond, codes, count_by, length, List, [], ◌∷◌, Option, Some, None}
+use Rattle.std.specs.Prelude.{Bool, true, false, ◌||◌, nat_le, cond, codes, count_by, length, List, [], ◌∷◌, Option, Some, None}
 use Rattle.std.specs.Option.{option_and_then}
 use Rattle.clap.specs.Words.{Row, Text, all_of}
 use Rattle.ghs_commands.specs.Values.{is_dash}

@@ -1,7 +1,7 @@
 //! The words that the program takes.
 ghost use Rattle.clap.specs.Words.{App, app_of, new_app, rule_of, with_subcommand};
 ghost use Rattle.clap.specs.declared.builder.command.Command.TheViews.{out-Command};
-ghost use Rattle.ghs_commands.specs.Grammar.{by_rule, core_rule, end_rule, explore_command, file_rule, book_rule, judge_command, files_rule, flag_rule, found_rule, from_rule, json_rule, kind_rule, limit_rule, links_rule, make_command, names_rule, node_rule, nodes_rule, option_rule, pair_rule, place_rule, print_rule, program, progress_rule, protocol_rule, replay_command, run_command, schedule_rule, seed_rule, seeds_rule, sheet_rule, steps_command, sweep_command, tally_rule, to_rule, trace_rule, tree_command, turns_rule, valued_rule, view_command, wake_rule, weights_rule, with_rules, workers_rule, stored_rule};
+ghost use Rattle.ghs_commands.specs.Grammar.{by_rule, core_rule, end_rule, explore_command, file_rule, book_rule, judge_command, files_rule, flag_rule, found_rule, from_rule, json_rule, kind_rule, limit_rule, links_rule, make_command, names_rule, node_rule, nodes_rule, option_rule, pair_rule, place_rule, print_rule, program, progress_rule, protocol_rule, protocols_rule, replay_command, run_command, schedule_rule, seed_rule, seeds_rule, sheet_rule, steps_command, sweep_command, tally_rule, to_rule, trace_rule, tree_command, turns_rule, valued_rule, view_command, wake_rule, weights_rule, with_rules, workers_rule, stored_rule};
 ghost use Rattle.std.specs.List.{All};
 ghost use Rattle.std.specs.Prelude.{◌≡◌, IfOk, false, map};
 
@@ -154,7 +154,7 @@ fn sweep<'a>(alloc: Global) -> Result<Command<'a>, AllocError>
 {
     let arguments = vec![in alloc;
         files(alloc),
-        protocol(alloc),
+        protocols(alloc),
         seeds(alloc),
         schedule(alloc),
         sharers(alloc),
@@ -477,6 +477,18 @@ fn protocol<'a>(alloc: Global) -> Arg<'a>
     option(alloc, "protocol", "ghs").help(
         "Which protocol the nodes follow: ghs, boruvka (Borůvka in step) or echo (the echo wave); the last two run without threads and by a seeded schedule",
     )
+}
+
+/// Which protocols those of a sweep follow, one after another.
+fn protocols<'a>(alloc: Global) -> Arg<'a>
+    ensures local { result.global ≡ false }
+    ensures rule { rule_of result ≡ protocols_rule }
+{
+    valued(alloc, "protocols", "protocol")
+        .default_value("ghs")
+        .help(
+            "Which protocols the nodes follow, one or more between commas: ghs, boruvka (Borůvka in step) and echo (the echo wave); the last two run by a seeded schedule",
+        )
 }
 
 /// How many threads take part.

@@ -9,13 +9,13 @@ ghost use Rattle.ghs_commands.specs.TwoSeeds.{are_two};
 ghost use Rattle.ghs_commands.specs.Wakers.{is_wake};
 ghost use Rattle.clap.specs.Words.{kind_of, subcommand_rows_of};
 ghost use Rattle.std.specs.Option.{option_map};
-ghost use Rattle.std.specs.Prelude.{◌≡◌, ◌≤◌, ◌↔◌, ◌∷◌, [], IfErr, IfOk, IfSome, IsTrue, OnErr, OnOk, Some, codes, false, map, string_bytes, true};
+ghost use Rattle.std.specs.Prelude.{◌≡◌, ◌≢◌, ◌≤◌, ◌↔◌, ◌∷◌, [], IfErr, IfOk, IfSome, IsTrue, OnErr, OnOk, Some, codes, false, map, string_bytes, true};
 
 use crate::exploring::{ExploreOptions, MOST_STATES, exploration_of};
 use crate::grammar::program;
 use crate::networks::{are_read_once, input_twice, named_of, values_of};
 use crate::parts::{by_named, go_together, is_part, no_such_sheet};
-use crate::protocols::{check_protocol, protocol_of};
+use crate::protocols::{check_protocol, protocol_of, protocols_of};
 use crate::two_seeds::{TwoSeeds, are_two, no_two_seeds, two_seeds_in};
 use crate::values::{
     Seeds, are_apart, are_weights, is_among, is_kind, is_number, is_range, is_text, no_kind,
@@ -153,7 +153,7 @@ pub struct StoredViewOptions {
 }
 
 /// What is to be done, and which protocol the nodes follow.
-#[derive(Clone, Copy, Debug, PartialEq, Eq)]
+#[derive(Debug, Drop)]
 pub enum Task {
     /// Print the minimum spanning forest, and each component's core where that is asked for.
     Tree {
@@ -174,9 +174,9 @@ pub enum Task {
         protocol: Protocol,
         options: StepsOptions,
     },
-    /// Print the figures of many seeds' runs.
+    /// Print the figures of many seeds' runs, by one protocol after another: some, each of them once.
     Sweep {
-        protocol: Protocol,
+        protocols: Vec<Protocol>,
         options: SweepOptions,
     },
     /// Print the page of the run that a seed picks.
@@ -287,7 +287,7 @@ fn job_of<'a>(alloc: Global, matches: &ArgMatches<'a>) -> Result<Job, JobFault>
         trace: owned(alloc, value_of(matches, "TRACE"))?,
         networks: networks_of(alloc, matches)?,
         book: owned(alloc, value_of(matches, "book"))?,
-        task: task_of(matches),
+        task: task_of(alloc, matches)?,
     })
 }
 
@@ -627,7 +627,22 @@ fn check_files<'a>(alloc: Global, matches: &ArgMatches<'a>) -> Result<(), JobFau
 }
 
 /// The task of a command.
-fn task_of<'a>(matches: &ArgMatches<'a>) -> Task
+fn task_of<'a>(alloc: Global, matches: &ArgMatches<'a>) -> Result<Task, AllocError>
+    ensures task { IfOk result (λ task. IsTask (subcommand_rows_of matches.now) task) }
+    ensures limits { IfOk result IsWithinLimits }
+{
+    if matches.subcommand_name() == Some("sweep") {
+        let protocols = protocols_of(alloc, matches)?;
+        let options = sweep_of(matches);
+        Ok(Task::Sweep { protocols, options })
+    } else {
+        Ok(task_by(matches))
+    }
+}
+
+/// The task of a command that isn't a sweep.
+fn task_by<'a>(matches: &ArgMatches<'a>) -> Task
+    requires { name_in (subcommand_rows_of matches.now) ≢ Some (codes "sweep") }
     ensures task { IsTask (subcommand_rows_of matches.now) result }
     ensures limits { IsWithinLimits result }
 {
@@ -641,9 +656,6 @@ fn task_of<'a>(matches: &ArgMatches<'a>) -> Task
     } else if matches.subcommand_name() == Some("steps") {
         let options = steps_of(matches);
         Task::Steps { protocol, options }
-    } else if matches.subcommand_name() == Some("sweep") {
-        let options = sweep_of(matches);
-        Task::Sweep { protocol, options }
     } else if matches.subcommand_name() == Some("view") {
         shown_by(matches, protocol)
     } else if matches.subcommand_name() == Some("make") {

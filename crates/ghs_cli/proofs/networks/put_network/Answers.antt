@@ -6,5 +6,5 @@ use Rattle.ghs_cli.proofs.networks.put_network.Goals as goal
 pub returns : goal.returns
 returns g c =
     let is : c.deref.result.now ≡ front_of c.args.options.now.form (string_bytes c.args.network.now.name) = search rules in
-    lines_behind c.args.protocol c.args.options.now c.args.network.now c.deref.result.now
-    c.args.text.now.items c.put_lines_of.new.text.items is c.in_ok-put_lines_of.ensures
+    lines_behind c.args.protocols.now c.args.options.now c.args.network.now c.deref.result.now
+    c.args.text.now.items c.put_lines_by.new.text.items is c.in_ok-put_lines_by.ensures

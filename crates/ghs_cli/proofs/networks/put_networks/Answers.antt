@@ -8,6 +8,6 @@ loop-place-init g c = ([], NoNetwork, sym (append-nil c.args.text.now.items))
 
 pub loop-place-preserved : goal.loop-place-preserved
 loop-place-preserved g c =
-    one_network_more c.args.protocol c.args.options.now c.args.networks.now c.loop-place.place c.index-networks-place.result c.args.text.now.items
-    c.loop-place.text.items c.put_network.new.text.items c.index-networks-place.is c.loop-place-test.true c.loop-place.invariant
+    one_network_more c.args.protocols.now c.args.options.now c.args.networks.now c.loop-place.place c.index-networks-place.result
+    c.args.text.now.items c.loop-place.text.items c.put_network.new.text.items c.index-networks-place.is c.loop-place-test.true c.loop-place.invariant
     c.in_ok-put_network.ensures

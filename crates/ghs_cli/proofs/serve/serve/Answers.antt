@@ -1,9 +1,21 @@
-use Rattle.std.proofs.Common.{refl}
+use Rattle.std.proofs.Common.{◌≡◌, List, ℕ, Option, Vec, Global, refl, subst}
+use Rattle.std.specs.Prelude.{IfOk, IfSome, Result}
+use Rattle.peer_trace.specs.declared.protocol.Protocol.{Protocol}
+use Rattle.ghs_commands.specs.declared.job.SweepOptions.{SweepOptions}
+use Rattle.ghs_cli.specs.declared.fault.ServeFault.{ServeFault}
+use Rattle.ghs_cli.specs.Charts.{IsSweepText}
 use Rattle.ghs_commands.specs.declared.job.Task.TheVariants as task
-use Rattle.ghs_cli.specs.Serving.{Serves}
+use Rattle.ghs_cli.specs.Serving.{IsOfText, Serves}
 use Rattle.ghs_cli.proofs.Ending.{ends_as, ends_other}
 use Rattle.ghs_cli.proofs.Serves.{for_some, serves_as, serves_stored, serves_unread, unread_as, unread_by, unwritten_as, unwritten_but_for_write}
 use Rattle.ghs_cli.proofs.serve.serve.Goals as goal
+
+-- what is printed of these protocols, which a list lends
+text_of_these : (ps qs : List Protocol) (o : SweepOptions) (left : Option (List ℕ)) (r : Result (Vec ℕ Global) ServeFault) → ps ≡ qs →
+    IfOk r (λ text. IfSome left (λ input. IsOfText (IsSweepText ps o.sheet o) input text.items)) →
+    IfOk r (λ text. IfSome left (λ input. IsOfText (IsSweepText qs o.sheet o) input text.items))
+text_of_these ps qs o left r same =
+    subst (λ (l : List Protocol). IfOk r (λ text. IfSome left (λ input. IsOfText (IsSweepText l o.sheet o) input text.items))) same
 
 pub returns-in-Tree-clause-serves : goal.returns-in-Tree-clause-serves
 returns-in-Tree-clause-serves g c =
@@ -48,23 +60,24 @@ returns-in-Replay-clause-trace g c = unread_as c.args.job.now.task (task.Replay 
 
 pub returns-in-Sweep-clause-serves : goal.returns-in-Sweep-clause-serves
 returns-in-Sweep-clause-serves g c =
-    serves_as c.args.job.now.task (task.Sweep c.in-Sweep.protocol c.in-Sweep.options) (g.T.Source.left c.args.trace.now)
+    serves_as c.args.job.now.task (task.Sweep c.in-Sweep.protocols c.in-Sweep.options) (g.T.Source.left c.args.trace.now)
     (g.R.Source.left c.args.graph.now) _ _
     c.print-in-Sweep.result c.in-Sweep.is
-    (serves_unread (task.Sweep c.in-Sweep.protocol c.in-Sweep.options) (g.R.Source.left c.args.graph.now) c.sweep_text_of.result _ _
+    (serves_unread (task.Sweep c.in-Sweep.protocols c.in-Sweep.options) (g.R.Source.left c.args.graph.now) c.sweep_text_of.result _ _
     c.print-in-Sweep.result refl refl c.sweep_text_of.ensures.early c.print-in-Sweep.ensures.printed
-    (λ s. c.sweep_text_of.ensures.text) (λ s. c.sweep_text_of.ensures.fault))
+    (λ s. text_of_these c.deref.result.now c.in-Sweep.protocols.items c.in-Sweep.options (g.R.Source.left c.args.graph.now) c.sweep_text_of.result
+    c.deref.ensures.value c.sweep_text_of.ensures.text) (λ s. c.sweep_text_of.ensures.fault))
 
 pub returns-in-Sweep-clause-ends : goal.returns-in-Sweep-clause-ends
 returns-in-Sweep-clause-ends g c =
-    ends_other c.args.job.now.task (task.Sweep c.in-Sweep.protocol c.in-Sweep.options)
+    ends_other c.args.job.now.task (task.Sweep c.in-Sweep.protocols c.in-Sweep.options)
     (g.R.Source.left c.args.graph.now) c.print-in-Sweep.result c.in-Sweep.is (λ i bounded. bounded)
 
 pub returns-in-Sweep-clause-unwritten : goal.returns-in-Sweep-clause-unwritten
 returns-in-Sweep-clause-unwritten g c = unwritten_but_for_write c.args.job.now.task _ _ c.print-in-Sweep.result c.print-in-Sweep.ensures.unwritten
 
 pub returns-in-Sweep-clause-trace : goal.returns-in-Sweep-clause-trace
-returns-in-Sweep-clause-trace g c = unread_as c.args.job.now.task (task.Sweep c.in-Sweep.protocol c.in-Sweep.options) _ _ c.in-Sweep.is
+returns-in-Sweep-clause-trace g c = unread_as c.args.job.now.task (task.Sweep c.in-Sweep.protocols c.in-Sweep.options) _ _ c.in-Sweep.is
     (λ reads. refl)
 
 pub returns-in-View-clause-serves : goal.returns-in-View-clause-serves

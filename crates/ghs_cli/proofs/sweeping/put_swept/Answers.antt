@@ -12,7 +12,7 @@ put_sheet-requires-clause-small g c =
 
 pub returns : goal.returns
 returns g c =
-    sheet_is_swept c.args.protocol c.args.options.now c.args.front.now c.args.graph.now c.args.table.now c.setup_of-setup.result
+    sheet_is_swept c.args.protocol c.args.options.now c.args.front.now c.args.graph.now c.in_ok-table.table c.setup_of-setup.result
     c.in_ok-runs.runs.items c.deref.result.now c.args.text.now.items
-    c.put_sheet.new.text.items c.requires.table c.setup_of-setup.ensures c.deref.ensures.value c.in_ok-runs.ensures.runs
+    c.put_sheet.new.text.items c.in_ok-table.ensures c.setup_of-setup.ensures c.deref.ensures.value c.in_ok-runs.ensures.runs
     c.in_ok-runs.ensures.all c.in_ok-put_sheet.ensures

@@ -1,10 +1,10 @@
 use Rattle.std.proofs.Common.{◌≡◌, ◌∙◌, rules}
 use Rattle.clap.specs.Words.{subcommand_name_of, subcommand_rows_of}
 use Rattle.ghs_commands.specs.Job.{IsNoOther, name_in}
-use Rattle.ghs_commands.proofs.job.task_of.Goals as goal
+use Rattle.ghs_commands.proofs.job.task_by.Goals as goal
 
-pub returns-else-eq-6-clause-task : goal.returns-else-eq-6-clause-task
-returns-else-eq-6-clause-task c =
+pub returns-else-eq-5-clause-task : goal.returns-else-eq-5-clause-task
+returns-else-eq-5-clause-task c =
     let same : subcommand_name_of c.args.matches.now ≡ name_in (subcommand_rows_of c.args.matches.now) = search rules in
     -- the name is none of those that were asked for one after another
     let none : IsNoOther (subcommand_rows_of c.args.matches.now) = record {
