@@ -65,7 +65,7 @@ fn assert_told(rt: &impl Abort, alloc: Global, book: &str, many: usize) {
 fn all_orders_agree(rt: HostRuntime) {
     match outcome(&rt, rt.alloc(), RIGHT, 50) {
         Ok(Outcome::Agrees(states)) => assert_eq!(rt; states, 50),
-        _ => assert!(&rt; false, "agrees"),
+        _other => assert!(&rt; false, "agrees"),
     }
 }
 
@@ -90,7 +90,7 @@ fn questions_of_the_first_events_are_open(rt: HostRuntime) {
             assert_eq!(rt; questions.len(), 1);
             assert_eq!(rt; questions[0].bytes(), b"own 1".as_slice());
         }
-        _ => assert!(&rt; false, "asks"),
+        _other => assert!(&rt; false, "asks"),
     }
     match outcome(&rt, rt.alloc(), "own 1 = own 1 ghs connect(level)\n", 50) {
         Ok(Outcome::Asks(questions)) => {
@@ -99,6 +99,6 @@ fn questions_of_the_first_events_are_open(rt: HostRuntime) {
             assert_eq!(rt; questions[1].bytes(), b"open 2 1:1-2 2:2-3".as_slice());
             assert_eq!(rt; questions[2].bytes(), b"open 3 2:2-3 3:1-3".as_slice());
         }
-        _ => assert!(&rt; false, "asks"),
+        _other => assert!(&rt; false, "asks"),
     }
 }
