@@ -1,4 +1,5 @@
-//! Worked examples of books, as tests alone. The texts, the answers and the faults are written by hand, from the format.
+//! Worked examples of books, as tests alone. The texts, the answers and the faults are written by hand, from the format; where
+//! the books of `orders` come from stands there.
 #![tactic(auto)]
 
 #[cfg(test)]
@@ -7,3 +8,5 @@ mod answers;
 mod books;
 #[cfg(test)]
 mod judged;
+#[cfg(test)]
+mod orders;

@@ -1,7 +1,7 @@
 //! The book is asked the work of an event.
 ghost use Rattle.ghs_core.specs.NetState.{IsAnswer, IsLawful};
 ghost use Rattle.own_book.specs.Answer.{are_kinds, are_sends, saying};
-ghost use Rattle.own_judge.specs.Deed.{deed_in};
+ghost use Rattle.own_judge.specs.Deed.{deed_in, deed_of};
 ghost use Rattle.own_judge.specs.Look.{HasKinds, amiss, by_reaction, compared, greeting_of, in_state, look_at, look_by, reaction_fault};
 ghost use Rattle.own_judge.specs.Question.{greeting_text, work_asked};
 ghost use Rattle.own_judge.specs.declared.look.Own.TheVariants as own;
@@ -27,7 +27,7 @@ use std::marker::Model;
 
 /// What is asked at an event.
 #[derive(Drop)]
-pub(crate) struct Asking<'s> {
+pub struct Asking<'s> {
     /// The kinds of messages that the greeting names.
     kinds: &'s [u8],
     node: u32,
@@ -47,8 +47,32 @@ impl<'s> Model for Asking<'s> {
     ghost view = { λ a. record { kinds = a.kinds.now; node = a.node; ports = a.ports.now; degree = a.degree; work = a.work; theirs = deed_of a.delta.now } };
 }
 
+impl<'s> Asking<'s> {
+    /// That the greeting names these kinds of messages, and this node of so many ports gets this work, to which the proved node
+    /// reacts by this delta.
+    pub fn of(
+        kinds: &'s [u8],
+        node: u32,
+        ports: &'s [Port],
+        degree: u32,
+        work: Work,
+        delta: &'s Delta,
+    ) -> Asking<'s>
+        ensures { result ≡ record { kinds = kinds.entry.now; node = node; ports = ports.entry.now; degree = degree; work = work; theirs = deed_of delta.entry.now } }
+    {
+        Asking {
+            kinds,
+            node,
+            ports,
+            degree,
+            work,
+            delta,
+        }
+    }
+}
+
 /// What the book says to the question after the greeting. Refusal: out of memory.
-pub(crate) fn greet<'a>(alloc: Global, book: &'a Book) -> Result<Greeting<'a>, AllocError>
+pub fn greet<'a>(alloc: Global, book: &'a Book) -> Result<Greeting<'a>, AllocError>
     ensures greeting { IfOk result (λ greeting. greeting ≡ greeting_of book.entry.now) }
     ensures kinds { IfOk result (λ greeting. HasKinds greeting) }
 {
@@ -101,8 +125,8 @@ pub(crate) fn look_at<'a>(
     look_by(alloc, book, &asking, own)
 }
 
-/// What comes of it where this is known of the node.
-fn look_by<'a>(
+/// What comes of it where this is known of the node. Refusal: out of memory.
+pub fn look_by<'a>(
     alloc: Global,
     book: &'a Book,
     asking: &Asking,

@@ -17,12 +17,12 @@
 //! `own_answers`, what is asked of an answer, and `ghs_steps`, what each event does.
 #![tactic(auto)]
 
-mod asking;
+pub mod asking;
 mod deed;
 pub mod end;
 pub mod judge;
 pub mod laws;
-mod look;
+pub mod look;
 mod question;
 mod report;
-mod text;
+pub mod text;
