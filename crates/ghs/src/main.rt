@@ -14,16 +14,17 @@ ghost use Rattle.ghs_cli.specs.Judging.{book_status};
 ghost use Rattle.peer_texts.specs.declared.trace.TheConstants.{EVENT_LIMIT};
 ghost use Rattle.ghs_cli.specs.Serving.{IfStored, IsBoundedTask, IsUnread, Serves, is_write};
 ghost use Rattle.ghs_cli.specs.declared.fault.ServeFault.{ServeFault};
-ghost use Rattle.ghs_commands.specs.Job.{AreSweepLimits, IsWithinLimits, kinds_of};
+ghost use Rattle.ghs_commands.specs.Job.{AreExploreLimits, AreSweepLimits, IsWithinLimits, kinds_of};
 ghost use Rattle.std.specs.IoError.{error_kind};
 ghost use Rattle.std.specs.Vec.Iter.{into_iter_items, into_iter_len};
 ghost use Rattle.std.specs.Prelude.{◌≡◌, ◌≤◌, ◌⊎◌, ◌↔◌, IfErr, IfOk, IfSome, IsErrOf, MatchResult, None, drop, false, length, map, string_bytes, true};
 
 use ghs_cli::fault::ServeFault;
-use ghs_cli::judging::{BookCause, judge_run, read_book_of};
+use ghs_cli::judging::{BookCause, judge_all, judge_run, read_book_of};
 use ghs_cli::networks::{Network, read_network, sweep_networks};
 use ghs_cli::reading::{events_of, graph_of};
 use ghs_cli::serve::serve;
+use ghs_commands::exploring::ExploreOptions;
 use ghs_commands::job::{Job, JobFault, SweepOptions, Task, read_job};
 use ghs_commands::values::is_dash;
 use ghs_gr::device::{Device, Source};
@@ -120,6 +121,10 @@ fn fulfil<R: Runtime + AllocGlobal + Threads + Wait + Sync>(rt: &R, alloc: Globa
             sweep(rt, alloc, protocols, options, &job.networks)
         }
         Task::Replay { protocol: _, wake } if job.book.is_some() => judge(rt, alloc, *wake, job),
+        Task::Explore {
+            protocol: _,
+            options,
+        } if job.book.is_some() => judge_runs(rt, alloc, options, job),
         _ => finish(rt, do_job(rt, alloc, job)),
     }
 }
@@ -185,6 +190,41 @@ fn judge<R: Runtime + AllocGlobal>(rt: &R, alloc: Global, wake: WakeSet, job: &J
         Ok(end) => end.status(),
         Err(cause) => tell(rt, &cause),
     }
+}
+
+/// Reads the book and the graph, judges all runs, and gives the exit status.
+fn judge_runs<R: Runtime + AllocGlobal>(
+    rt: &R,
+    alloc: Global,
+    options: &ExploreOptions,
+    job: &Job,
+) -> u8
+    requires { AreExploreLimits options.now }
+    ensures { IsStatusOfJob result }
+{
+    let book = match book_of(rt, alloc, job.book.as_ref()) {
+        Ok(book) => book,
+        Err(cause) => return tell_cause(rt, &cause),
+    };
+    match all_judged(rt, alloc, options, job, &book) {
+        Ok(end) => end.status(),
+        Err(cause) => tell(rt, &cause),
+    }
+}
+
+/// Reads the graph, and judges all its runs.
+fn all_judged<R: Runtime + AllocGlobal>(
+    rt: &R,
+    alloc: Global,
+    options: &ExploreOptions,
+    job: &Job,
+    book: &Book,
+) -> Result<End, ServeFault>
+    requires { AreExploreLimits options.now }
+{
+    let graph = built_of(rt, alloc, options.wake, job.graph.as_ref())?;
+    let mut out = Device::of(io::writer(rt));
+    judge_all(alloc, options.wake, graph, book, options.limit, &mut out)
 }
 
 /// Opens the book's file and reads it. A file that can't be opened can't be read.

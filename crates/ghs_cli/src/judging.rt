@@ -1,20 +1,34 @@
-//! Stored runs, judged by books.
-ghost use Rattle.ghs_cli.specs.Judging.{HasJudged, IsBookCause, IsBookText, IsUnread, IsUnwritten, book_status, of_book, of_text};
+//! Stored runs, and all runs of small networks, judged by books.
+ghost use Rattle.ghs_cli.specs.Judging.{HasJudged, HasJudgedAll, IsBookCause, IsToldOf, agreed_text, IsBookText, IsUnread, IsUnwritten, book_status, of_book, of_text};
 ghost use Rattle.peer_texts.specs.declared.trace.TheConstants.{EVENT_LIMIT};
-ghost use Rattle.std.specs.Prelude.{◌≡◌, ◌≤◌, ◌↔◌, false, length, true, IfErr, IfOk, IfSome};
+ghost use Rattle.ghs_cli.specs.Judging.{IsRunTold, shortest, unjudged};
+ghost use Rattle.ghs_protocol.specs.Run.{IsRun};
+ghost use Rattle.own_judge.specs.Report.{IsJudgement};
+ghost use Rattle.own_judge.specs.Verdict.{line};
+ghost use Rattle.own_judge.specs.declared.end.End.{End};
+ghost use Rattle.peer_network.specs.Network.{network_of};
+ghost use Rattle.peer_texts.specs.Text.{trace_text};
+ghost use Rattle.std.specs.List.{flat_map};
+ghost use Rattle.std.specs.Prelude.{◌≡◌, ◌≤◌, ◌↔◌, ◌++◌, List, ℕ, false, length, true, IfErr, IfOk, IfSome};
 
 use crate::fault::ServeFault;
 use ghs_gr::device::{Sink, Source};
 use ghs_gr::text::{TextFault, read_text};
 use ghs_graph::graph::Graph;
+use ghs_explore::fault::ExploreFault;
+use ghs_lines::numbers::put_number;
 use ghs_report::write_out::write_out;
 use own_book::book::{Book, read_book};
 use own_book::fault::BookFault;
 use own_judge::end::End;
-use own_judge::judge::judge_stored;
+use own_judge::judge::{Judgement, judge, judge_stored};
+use own_judge::text::Question;
+use own_orders::orders::judge_orders;
+use own_orders::outcome::Outcome;
 use peer_network::event::Event;
 use peer_network::wake_set::WakeSet;
-use std::alloc::Global;
+use peer_texts::trace::{EVENT_LIMIT, write_trace};
+use std::alloc::{AllocError, Global};
 use thiserror::Error;
 
 /// Why there is no book to judge by.
@@ -97,4 +111,124 @@ pub fn judge_run<W: Sink>(
     let judgement = judge_stored(alloc, graph, wake, events, book)?;
     write_out(out, &judgement.text)?;
     Ok(judgement.end)
+}
+
+/// Judges all runs of a small network by a book, writes what that comes to, and says how it ends. The text is made whole before
+/// its first byte goes out. Faults: a graph that is too large; more states than the limit, more than their parts' numbers, lack
+/// of memory; and then a write that fails.
+///
+/// ```text
+/// let end = judge_all(alloc, WakeSet::All, graph, &book, 1_000_000, &mut out)?;
+/// // of a right node End::Agrees, and standard output has `the node agrees with the protocol in every run: 50 states`
+/// ```
+pub fn judge_all<W: Sink>(
+    alloc: Global,
+    wake: WakeSet,
+    graph: Graph,
+    book: &Book,
+    limit: u32,
+    out: &mut W,
+) -> Result<End, ServeFault>
+    requires some { 1 ≤ limit }
+    requires out { W.has_failed out.old ≡ false }
+    ensures judged { HasJudgedAll wake graph book.now limit (W.held out.old) (W.held out.new) result }
+    ensures write { IsUnwritten result ↔ (W.has_failed out.new ≡ true) }
+{
+    let outcome = match judge_orders(alloc, &graph, wake, book, limit) {
+        Ok(outcome) => outcome,
+        Err(fault) => return Err(unjudged(fault, limit)),
+    };
+    let judgement = told_of(alloc, graph, book, &outcome)?;
+    write_out(out, &judgement.text)?;
+    Ok(judgement.end)
+}
+
+/// Why all runs of a graph aren't judged.
+fn unjudged(fault: ExploreFault, limit: u32) -> ServeFault
+    ensures { result ≡ unjudged fault limit }
+{
+    match fault {
+        ExploreFault::TooLarge => ServeFault::TooLargeToExplore,
+        ExploreFault::TooMany => ServeFault::StateLimit { limit },
+        ExploreFault::PartLimit => ServeFault::PartLimit,
+        ExploreFault::Memory => ServeFault::Memory,
+    }
+}
+
+/// What is printed of what a book comes to in all runs of a graph. Refusal: out of memory.
+fn told_of(
+    alloc: Global,
+    graph: Graph,
+    book: &Book,
+    outcome: &Outcome,
+) -> Result<Judgement, AllocError>
+    requires run { IsRunTold graph outcome.now }
+    ensures { IfOk result (λ j. IsToldOf graph book.now outcome.now j.end j.text.items) }
+{
+    match outcome {
+        Outcome::Agrees(states) => agreed(alloc, *states),
+        Outcome::Asks(questions) => asked(alloc, questions),
+        Outcome::Tells(events) => told(alloc, graph, book, events),
+    }
+}
+
+/// The line of a book that agrees.
+fn agreed(alloc: Global, states: usize) -> Result<Judgement, AllocError>
+    ensures end { IfOk result (λ j. j.end ≡ End.Agrees) }
+    ensures text { IfOk result (λ j. j.text.items ≡ agreed_text states) }
+{
+    let mut text = Vec::new(alloc);
+    text.extend_from_slice(b"the node agrees with the protocol in every run: ")?;
+    put_number(&mut text, states as u128)?;
+    text.extend_from_slice(b" states\n")?;
+    Ok(Judgement {
+        end: End::Agrees,
+        text,
+    })
+}
+
+/// The lines of questions that are open.
+fn asked(alloc: Global, questions: &[Question]) -> Result<Judgement, AllocError>
+    ensures end { IfOk result (λ j. j.end ≡ End.Asks) }
+    ensures text { IfOk result (λ j. j.text.items ≡ flat_map line questions.now) }
+{
+    let mut text = Vec::new(alloc);
+    for question in questions {
+        put_question(&mut text, question)?;
+    }
+    Ok(Judgement {
+        end: End::Asks,
+        text,
+    })
+}
+
+/// The line of a question.
+fn put_question(text: &mut Vec<u8>, question: &Question) -> Result<(), AllocError>
+    ensures { IfOk result (λ _. text.new.items ≡ text.old.items ++ line question.now) }
+{
+    text.extend_from_slice(question.bytes())?;
+    text.extend_from_slice(b"\n")
+}
+
+/// The verdict of a run, and its events.
+fn told(
+    alloc: Global,
+    graph: Graph,
+    book: &Book,
+    events: &[Event],
+) -> Result<Judgement, AllocError>
+    requires { IsRun (network_of graph) events.now }
+    ensures { IfOk result (λ j. (judged : List ℕ) × IsJudgement book.now graph events.now j.end judged × (j.text.items ≡ judged ++ shortest ++ trace_text events.now)) }
+{
+    // A search meets far fewer states than that.
+    if events.len() as u64 > EVENT_LIMIT {
+        return Err(AllocError);
+    }
+    let mut judgement = judge(alloc, graph, events, book)?;
+    let trace = write_trace(alloc, events)?;
+    judgement
+        .text
+        .extend_from_slice(b"the shortest order that leads there:\n")?;
+    judgement.text.extend_from_slice(&trace)?;
+    Ok(judgement)
 }

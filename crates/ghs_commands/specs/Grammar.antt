@@ -199,10 +199,15 @@ found_rule = record (new_rule (codes "found")) { long = Some (codes "print"); de
 abbrev pub end_rule : Rule
 end_rule = option_rule (codes "end") (codes "1")
 
--- `explore [FILE] [--protocol ghs|boruvka|echo] [--wake all|first|V,..] [--limit STATES] [--print report|trace] [--end K] [--progress]`
+-- `--book`: the book that all runs are compared with
+abbrev pub own_rule : Rule
+own_rule = record (new_rule (codes "book")) { long = Some (codes "book") }
+
+-- `explore [FILE] [--protocol ghs|boruvka|echo] [--book BOOK] [--wake all|first|V,..] [--limit STATES] [--print report|trace] [--end K]
+-- [--progress]`
 abbrev pub explore_command : App
 explore_command =
-    with_rules (file_rule ∷ protocol_rule ∷ wake_rule ∷ limit_rule ∷ found_rule ∷ end_rule ∷ progress_rule ∷ []) (new_app (codes "explore"))
+    with_rules (file_rule ∷ protocol_rule ∷ own_rule ∷ wake_rule ∷ limit_rule ∷ found_rule ∷ end_rule ∷ progress_rule ∷ []) (new_app (codes "explore"))
 
 -- the program's command line: its name and one of its commands, or a word that asks for its version
 unfoldable pub program : App

@@ -36,6 +36,8 @@ fn stranger_of_run<'a>(matches: &ArgMatches<'a>) -> Option<&'static str>
         Some("--progress")
     } else if is_said(value_of(matches, "tally"), "true") {
         Some("--tally")
+    } else if value_of(matches, "book").is_some() {
+        Some("--book <book>")
     } else {
         None
     }
