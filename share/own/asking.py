@@ -110,9 +110,11 @@ class Book:
         return answer
 
     def judge(self, trace, graph, wake):
-        """Asks what is open until nothing is; the status of `ghs judge`, and what it prints."""
+        """Asks what is open until nothing is; the status of `ghs judge`, and what it prints. Without a trace all runs are judged,
+        by `ghs explore`."""
+        what = ["explore", graph] if trace is None else ["judge", trace, graph]
         while True:
-            command = [self.ghs, "judge", trace, graph, "--book", self.path, "--wake", wake]
+            command = [self.ghs, *what, "--book", self.path, "--wake", wake]
             ran = subprocess.run(command, capture_output=True, text=True, check=False)
             garbled = NO_ANSWER.match(ran.stderr)
             if garbled:

@@ -12,10 +12,10 @@ ghost use Rattle.std.specs.List.{flat_map};
 ghost use Rattle.std.specs.Prelude.{◌≡◌, ◌≤◌, ◌↔◌, ◌++◌, List, ℕ, false, length, true, IfErr, IfOk, IfSome};
 
 use crate::fault::ServeFault;
+use ghs_explore::fault::ExploreFault;
 use ghs_gr::device::{Sink, Source};
 use ghs_gr::text::{TextFault, read_text};
 use ghs_graph::graph::Graph;
-use ghs_explore::fault::ExploreFault;
 use ghs_lines::numbers::put_number;
 use ghs_report::write_out::write_out;
 use own_book::book::{Book, read_book};
@@ -211,12 +211,7 @@ fn put_question(text: &mut Vec<u8>, question: &Question) -> Result<(), AllocErro
 }
 
 /// The verdict of a run, and its events.
-fn told(
-    alloc: Global,
-    graph: Graph,
-    book: &Book,
-    events: &[Event],
-) -> Result<Judgement, AllocError>
+fn told(alloc: Global, graph: Graph, book: &Book, events: &[Event]) -> Result<Judgement, AllocError>
     requires { IsRun (network_of graph) events.now }
     ensures { IfOk result (λ j. (judged : List ℕ) × IsJudgement book.now graph events.now j.end judged × (j.text.items ≡ judged ++ shortest ++ trace_text events.now)) }
 {

@@ -207,7 +207,9 @@ own_rule = record (new_rule (codes "book")) { long = Some (codes "book") }
 -- [--progress]`
 abbrev pub explore_command : App
 explore_command =
-    with_rules (file_rule ∷ protocol_rule ∷ own_rule ∷ wake_rule ∷ limit_rule ∷ found_rule ∷ end_rule ∷ progress_rule ∷ []) (new_app (codes "explore"))
+    with_rules
+    (file_rule ∷ protocol_rule ∷ own_rule ∷ wake_rule ∷ limit_rule ∷ found_rule ∷ end_rule ∷ progress_rule ∷ [])
+    (new_app (codes "explore"))
 
 -- the program's command line: its name and one of its commands, or a word that asks for its version
 unfoldable pub program : App
