@@ -5,6 +5,7 @@ use Rattle.clap.proofs.OnLiterals.{clap_on_literals}
 use Rattle.clap.specs.Words.{Text}
 use Rattle.ghs_commands.specs.Grammar.{program}
 use Rattle.peer_trace.specs.declared.protocol.Protocol.TheVariants.{Boruvka, Ghs}
+use Rattle.ghs_commands.specs.Wakers.{listed}
 use Rattle.ghs_commands.specs.Job.{command_in, kinds_of, name_in, protocols_in, value_in}
 
 tree-taken : kinds_of (codes "tree" ∷ []) ≡ []
@@ -68,8 +69,16 @@ unfolding program clap_on_literals
 wake-not_given = refl
 
 wake-refused : kinds_of (codes "replay" ∷ codes "--wake" ∷ codes "none" ∷ codes "run.trace" ∷ []) ≡ kind.InvalidValue ∷ []
-unfolding program clap_on_literals
+unfolding program clap_on_literals listed
 wake-refused = refl
+
+wakers-taken : kinds_of (codes "run" ∷ codes "--wake" ∷ codes "7,5" ∷ []) ≡ []
+unfolding program clap_on_literals listed
+wakers-taken = refl
+
+wakers-refused : kinds_of (codes "run" ∷ codes "--wake" ∷ codes "7," ∷ []) ≡ kind.InvalidValue ∷ []
+unfolding program clap_on_literals listed
+wakers-refused = refl
 
 replay-named : value_in (codes "TRACE") (command_in (codes "replay" ∷ codes "run.trace" ∷ codes "map.gr" ∷ [])) ≡ Some (codes "run.trace")
 unfolding program clap_on_literals
