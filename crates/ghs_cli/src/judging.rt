@@ -138,9 +138,9 @@ pub fn judge_all<W: Sink>(
         Ok(outcome) => outcome,
         Err(fault) => return Err(unjudged(fault, limit)),
     };
-    let judgement = told_of(alloc, graph, book, &outcome)?;
-    write_out(out, &judgement.text)?;
-    Ok(judgement.end)
+    let told = told_of(alloc, graph, book, &outcome)?;
+    write_out(out, &told.text)?;
+    Ok(told.end)
 }
 
 /// Why all runs of a graph aren't judged.
