@@ -81,29 +81,29 @@ if_both p (Some s) None g events P all trace text = tt
 if_both p (Some s) (Some i) g events P all trace text = all s i trace text
 
 -- so what a result tells of both it tells of their texts,
-pub output_of_both : {A : Type 0} {wake : WakeSet} (r : Result A ServeFault) (out : A → List ℕ) (p : Protocol)
+pub output_of_both : {A : Type 0} (wake : WakeSet) (r : Result A ServeFault) (out : A → List ℕ) (p : Protocol)
     (Tells : Shape → List Event → List ℕ → Type 0)
     (g : Shape) (events : List Event) (stored input : Option (List ℕ)) →
     IfOk r (λ x. Tells g events (out x)) →
     IfSome stored (λ s. IsTraceText p s events) →
     IfSome input (λ i. IsTextOf wake i g) →
     IfOk r (λ x. IfSome stored (λ s. IfSome input (λ i. IsOfBoth p wake Tells s i (out x))))
-output_of_both {wake = wake} (Err fault) out p Tells g events stored input told trace text = tt
-output_of_both {wake = wake} (Ok x) out p Tells g events stored input told trace text =
+output_of_both wake (Err fault) out p Tells g events stored input told trace text = tt
+output_of_both wake (Ok x) out p Tells g events stored input told trace text =
     if_both p stored input g events (λ s i. IsOfBoth p wake Tells s i (out x))
     (λ s i trace_s text_i. told_of p Tells s i (out x) g events trace_s text_i told)
     trace text
 
 -- and so does its fault
-pub cause_of_both : {A : Type 0} {wake : WakeSet} (r : Result A ServeFault) (p : Protocol)
+pub cause_of_both : {A : Type 0} (wake : WakeSet) (r : Result A ServeFault) (p : Protocol)
     (Fails : Shape → List Event → ServeFault → Type 0) (g : Shape)
     (events : List Event) (stored input : Option (List ℕ)) →
     IfErr r (Fails g events) →
     IfSome stored (λ s. IsTraceText p s events) →
     IfSome input (λ i. IsTextOf wake i g) →
     IfErr r (λ fault. IfSome stored (λ s. IfSome input (λ i. IsBothCause p wake Fails s i fault)))
-cause_of_both {wake = wake} (Ok x) p Fails g events stored input cause trace text = tt
-cause_of_both {wake = wake} (Err fault) p Fails g events stored input cause trace text =
+cause_of_both wake (Ok x) p Fails g events stored input cause trace text = tt
+cause_of_both wake (Err fault) p Fails g events stored input cause trace text =
     if_both p stored input g events (λ s i. IsBothCause p wake Fails s i fault)
     (λ s i trace_s text_i. fault_of p Fails s i g events fault trace_s text_i cause)
     trace text

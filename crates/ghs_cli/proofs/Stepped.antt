@@ -1,11 +1,9 @@
 -- What writing the steps of a stored run comes to.
-use Rattle.std.proofs.Common.{◌≡◌, ◌⊎◌, ℕ, Bool, false, true, List, Option, ⊎_elim, inl, inr, length, refl, subst, sym, arith, ◌∙◌, ◌&&◌, ◌||◌}
+use Rattle.std.proofs.Common.{◌≡◌, ℕ, Bool, false, true, List, Option, inl, inr, length, refl, subst, sym, arith, ◌&&◌, ◌||◌}
 use Rattle.std.specs.Prelude.{IfErr, IfSome, Result, Ok, Err}
 use Rattle.std.specs.Io.KnownBytes.{Appends}
 use Rattle.std.proofs.lemmas.List.{take_all}
 use Rattle.ghs_graph.specs.Graph.{Shape}
-use Rattle.ghs_report.specs.Written.{IsFront}
-use Rattle.ghs_report.specs.declared.portions.WriteFault.TheVariants as writes
 use Rattle.ghs_steps.specs.Shown as ghs
 use Rattle.ghs_sched.specs.Replays as ghs_replays
 use Rattle.ghs_protocol.specs.Run as ghs_run
@@ -25,7 +23,7 @@ use Rattle.peer_words.specs.Words.{Words}
 use Rattle.ghs_cli.specs.AnyRun as any_run
 use Rattle.ghs_cli.specs.Fault.{of_steps}
 use Rattle.ghs_cli.specs.Running.{AreSteps}
-use Rattle.ghs_cli.specs.Serving.{IsBothCause, IsTextOf, IsTraceText, Serves, is_late, is_limit, is_memory, is_write, meaning_of}
+use Rattle.ghs_cli.specs.Serving.{IsTextOf, IsTraceText, Serves, is_late, is_limit, is_memory, is_write, meaning_of}
 use Rattle.ghs_cli.specs.Stepping.{CantTell, HasTold}
 use Rattle.ghs_cli.specs.Verbs.{verbs_of}
 use Rattle.ghs_cli.specs.declared.fault.ServeFault.{ServeFault}

@@ -27,19 +27,19 @@ of_text : {wake : WakeSet} (P : Shape → Type 0) (input : List ℕ) (g : Shape)
 of_text P input g (raw, is, same) holds = (raw, is, subst P same holds)
 
 -- so what a result says of a graph it says of the text,
-pub output_of_text : {A : Type 0} {wake : WakeSet} (r : Result A ServeFault) (P : A → Shape → Type 0) (g : Shape) (input : Option (List ℕ)) →
+pub output_of_text : {A : Type 0} (wake : WakeSet) (r : Result A ServeFault) (P : A → Shape → Type 0) (g : Shape) (input : Option (List ℕ)) →
     IfSome input (λ i. IsTextOf wake i g) →
     IfOk r (λ x. P x g) →
     IfOk r (λ x. IfSome input (λ i. (raw : RawShape) × IsRead wake i raw × P x (shape_of raw)))
-output_of_text (Ok x) P g None is holds = tt
-output_of_text (Ok x) P g (Some i) is holds = of_text (P x) i g is holds
-output_of_text (Err fault) P g input is holds = tt
+output_of_text wake (Ok x) P g None is holds = tt
+output_of_text wake (Ok x) P g (Some i) is holds = of_text (P x) i g is holds
+output_of_text wake (Err fault) P g input is holds = tt
 
 -- and what a fault says
-pub cause_of_text : {A : Type 0} {wake : WakeSet} (r : Result A ServeFault) (P : Shape → ServeFault → Type 0) (g : Shape) (input : Option (List ℕ)) →
+pub cause_of_text : {A : Type 0} (wake : WakeSet) (r : Result A ServeFault) (P : Shape → ServeFault → Type 0) (g : Shape) (input : Option (List ℕ)) →
     IfSome input (λ i. IsTextOf wake i g) →
     IfErr r (P g) →
     IfErr r (λ fault. IfSome input (λ i. IsGraphCause wake i fault ⊎ ((raw : RawShape) × IsRead wake i raw × P (shape_of raw) fault)))
-cause_of_text (Ok x) P g input is holds = tt
-cause_of_text (Err fault) P g None is holds = tt
-cause_of_text (Err fault) P g (Some i) is holds = inr (of_text (λ s. P s fault) i g is holds)
+cause_of_text wake (Ok x) P g input is holds = tt
+cause_of_text wake (Err fault) P g None is holds = tt
+cause_of_text wake (Err fault) P g (Some i) is holds = inr (of_text (λ s. P s fault) i g is holds)

@@ -36,7 +36,7 @@ pub(crate) fn explored_text_of<S: Source, R: Eprint>(
     requires limits { AreExploreLimits options.now }
     requires graph { S.has_failed graph.old ≡ false }
     ensures text { IfOk result (λ text. IfSome (S.left graph.old) (λ input. IsOfText options.now.wake ((verbs_of protocol).explores options.now) input text.items)) }
-    ensures fault { IfErr result (λ fault. IfSome (S.left graph.old) (λ input. IsTextCause ((verbs_of protocol).cant_explore options.now) input fault)) }
+    ensures fault { IfErr result (λ fault. IfSome (S.left graph.old) (λ input. IsTextCause options.now.wake ((verbs_of protocol).cant_explore options.now) input fault)) }
     ensures early { IfErr result (λ fault. is_write fault ≡ false) }
     ensures read { IsErrOf result ServeFault.Read ↔ (S.has_failed graph.new ≡ true) }
 {

@@ -38,7 +38,7 @@ pub(crate) fn replay_text_of<R: Source, T: Source>(
     requires graph { R.has_failed graph.old ≡ false }
     requires trace { T.has_failed trace.old ≡ false }
     ensures text { IfOk result (λ text. IfSome (T.left trace.old) (λ stored. IfSome (R.left graph.old) (λ input. IsOfBoth protocol wake ((verbs_of protocol).replays wake) stored input text.items))) }
-    ensures fault { IfErr result (λ fault. IfSome (T.left trace.old) (λ stored. IfSome (R.left graph.old) (λ input. IsBothCause protocol ((verbs_of protocol).cant_replay wake) stored input fault))) }
+    ensures fault { IfErr result (λ fault. IfSome (T.left trace.old) (λ stored. IfSome (R.left graph.old) (λ input. IsBothCause protocol wake ((verbs_of protocol).cant_replay wake) stored input fault))) }
     ensures early { IfErr result (λ fault. is_write fault ≡ false) }
     ensures read { IsErrOf result ServeFault.Read ↔ ((R.has_failed graph.new ≡ true) ⊎ (T.has_failed trace.new ≡ true)) }
 {

@@ -39,7 +39,7 @@ pub(crate) fn view_text_of<S: Source>(
     requires limits { AreViewLimits options.now }
     requires graph { S.has_failed graph.old ≡ false }
     ensures text { IfOk result (λ text. IfSome (S.left graph.old) (λ input. IsOfText options.now.wake ((verbs_of protocol).views options.now) input text.items)) }
-    ensures fault { IfErr result (λ fault. IfSome (S.left graph.old) (λ input. IsTextCause ((verbs_of protocol).cant_view options.now) input fault)) }
+    ensures fault { IfErr result (λ fault. IfSome (S.left graph.old) (λ input. IsTextCause options.now.wake ((verbs_of protocol).cant_view options.now) input fault)) }
     ensures early { IfErr result (λ fault. is_write fault ≡ false) }
     ensures read { IsErrOf result ServeFault.Read ↔ (S.has_failed graph.new ≡ true) }
 {
@@ -142,7 +142,7 @@ pub(crate) fn stored_view_of<R: Source, T: Source>(
     requires graph { R.has_failed graph.old ≡ false }
     requires trace { T.has_failed trace.old ≡ false }
     ensures text { IfOk result (λ text. IfSome (T.left trace.old) (λ stored. IfSome (R.left graph.old) (λ input. IsOfBoth protocol options.now.wake ((verbs_of protocol).views_stored options.now) stored input text.items))) }
-    ensures fault { IfErr result (λ fault. IfSome (T.left trace.old) (λ stored. IfSome (R.left graph.old) (λ input. IsBothCause protocol ((verbs_of protocol).cant_view_stored options.now) stored input fault))) }
+    ensures fault { IfErr result (λ fault. IfSome (T.left trace.old) (λ stored. IfSome (R.left graph.old) (λ input. IsBothCause protocol options.now.wake ((verbs_of protocol).cant_view_stored options.now) stored input fault))) }
     ensures early { IfErr result (λ fault. is_write fault ≡ false) }
     ensures read { IsErrOf result ServeFault.Read ↔ ((R.has_failed graph.new ≡ true) ⊎ (T.has_failed trace.new ≡ true)) }
 {

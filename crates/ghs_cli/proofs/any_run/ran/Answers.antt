@@ -1,11 +1,10 @@
-use Rattle.std.proofs.Common.{◌≡◌, subst, sym, true}
-use Rattle.std.specs.Prelude.{IfErr, IfOk}
+use Rattle.std.proofs.Common.{subst, sym}
+use Rattle.std.specs.Prelude.{IfErr}
 use Rattle.ghs_graph.specs.Graph.{Shape}
 use Rattle.peer_machine.specs.Run.{net_after}
-use Rattle.peer_report.specs.Runs.{IsRan as HasRun, IsStopped}
+use Rattle.peer_report.specs.Runs.{IsRan as HasRun}
 use Rattle.peer_report.specs.declared.run.RunEnd.{RunEnd}
-use Rattle.ghs_cli.specs.AnyRun.{IsRan, StopsRun}
-use Rattle.ghs_cli.proofs.AnyRun.{each_by}
+use Rattle.ghs_cli.specs.AnyRun.{StopsRun}
 use Rattle.ghs_cli.proofs.any_run.ran.Goals as goal
 
 pub shown-requires : goal.shown-requires

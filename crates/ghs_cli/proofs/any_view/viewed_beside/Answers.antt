@@ -1,4 +1,4 @@
-use Rattle.std.proofs.Common.{rules, subst, sym, ◌∙◌}
+use Rattle.std.proofs.Common.{subst, sym}
 use Rattle.std.specs.Prelude.{IfErr, IfOk}
 use Rattle.ghs_graph.specs.Graph.{Shape}
 use Rattle.peer_view.specs.PairPage.{IsPairPage}

@@ -12,10 +12,10 @@ use Rattle.ghs_cli.proofs.serve.serve.Goals as goal
 
 -- what is printed of these protocols, which a list lends
 text_of_these : (ps qs : List Protocol) (o : SweepOptions) (left : Option (List ℕ)) (r : Result (Vec ℕ Global) ServeFault) → ps ≡ qs →
-    IfOk r (λ text. IfSome left (λ input. IsOfText (IsSweepText ps o.sheet o) input text.items)) →
-    IfOk r (λ text. IfSome left (λ input. IsOfText (IsSweepText qs o.sheet o) input text.items))
+    IfOk r (λ text. IfSome left (λ input. IsOfText o.wake (IsSweepText ps o.sheet o) input text.items)) →
+    IfOk r (λ text. IfSome left (λ input. IsOfText o.wake (IsSweepText qs o.sheet o) input text.items))
 text_of_these ps qs o left r same =
-    subst (λ (l : List Protocol). IfOk r (λ text. IfSome left (λ input. IsOfText (IsSweepText l o.sheet o) input text.items))) same
+    subst (λ (l : List Protocol). IfOk r (λ text. IfSome left (λ input. IsOfText o.wake (IsSweepText l o.sheet o) input text.items))) same
 
 pub returns-in-Tree-clause-serves : goal.returns-in-Tree-clause-serves
 returns-in-Tree-clause-serves g c =
