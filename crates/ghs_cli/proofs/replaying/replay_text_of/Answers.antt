@@ -8,7 +8,8 @@ use Rattle.ghs_cli.proofs.replaying.replay_text_of.Goals as goal
 pub returns-clause-text : goal.returns-clause-text
 returns-clause-text g c =
     let replays = (verbs_of c.args.protocol).replays c.args.wake in
-    output_of_both c.args.wake c.replayed_by.result (λ text. text.items) c.args.protocol replays c.in_ok-graph.graph c.in_ok-events.events.items _ _
+    output_of_both c.args.wake c.replayed_by.result (λ text. text.items)
+    c.args.protocol replays c.in_ok-graph.graph c.in_ok-events.events.items _ _
     (subst (λ (es : List Event). IfOk c.replayed_by.result (λ text. replays c.in_ok-graph.graph es text.items))
     c.deref.ensures.value c.replayed_by.ensures.text)
     c.in_ok-events.ensures.events c.in_ok-graph.ensures.text

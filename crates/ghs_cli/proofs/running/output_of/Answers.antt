@@ -4,7 +4,8 @@ use Rattle.ghs_cli.proofs.running.output_of.Goals as goal
 
 pub returns-clause-output : goal.returns-clause-output
 returns-clause-output g c =
-    output_of_text c.args.options.now.wake c.ran_by.result (λ o s. (verbs_of c.args.protocol).runs c.args.options.now s o.at_limit o.text.items) c.in_ok-graph.graph
+    output_of_text c.args.options.now.wake c.ran_by.result
+    (λ o s. (verbs_of c.args.protocol).runs c.args.options.now s o.at_limit o.text.items) c.in_ok-graph.graph
     (g.S.Source.left c.args.graph.now) c.in_ok-graph.ensures.text c.ran_by.ensures.output
 
 pub returns-clause-fault : goal.returns-clause-fault

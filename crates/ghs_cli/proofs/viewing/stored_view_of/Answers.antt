@@ -8,7 +8,8 @@ use Rattle.ghs_cli.proofs.viewing.stored_view_of.Goals as goal
 pub returns-clause-text : goal.returns-clause-text
 returns-clause-text g c =
     let views = (verbs_of c.args.protocol).views_stored c.args.options.now in
-    output_of_both c.args.options.now.wake c.stored_viewed_by.result (λ text. text.items) c.args.protocol views c.in_ok-graph.graph c.in_ok-events.events.items _ _
+    output_of_both c.args.options.now.wake c.stored_viewed_by.result (λ text. text.items)
+    c.args.protocol views c.in_ok-graph.graph c.in_ok-events.events.items _ _
     (subst (λ (es : List Event). IfOk c.stored_viewed_by.result (λ text. views c.in_ok-graph.graph es text.items))
     c.deref.ensures.value c.stored_viewed_by.ensures.text)
     c.in_ok-events.ensures.events c.in_ok-graph.ensures.text
