@@ -44,6 +44,7 @@ _ghs() {
         make,--links) : && return ;;
         make,--weights) COMPREPLY=($(compgen -W 'random rising falling equal' -- "$word")) && return ;;
         explore,--protocol) COMPREPLY=($(compgen -W 'ghs boruvka echo' -- "$word")) && return ;;
+        explore,--book) : && return ;;
         explore,--wake) COMPREPLY=($(compgen -W 'all first' -- "$word")) && return ;;
         explore,--limit) : && return ;;
         explore,--print) COMPREPLY=($(compgen -W 'report trace' -- "$word")) && return ;;
@@ -60,7 +61,7 @@ _ghs() {
         view) [[ $word == -* ]] && COMPREPLY=($(compgen -W '--protocol --seed --seeds --schedule --wake --turns --trace --from --to -h --help' -- "$word")) ;;
         make) [[ $word == -* ]] && COMPREPLY=($(compgen -W '--seed --links --weights -h --help' -- "$word"))
             [[ $word == -* ]] || { [ "$COMP_CWORD" -eq 2 ] && COMPREPLY=($(compgen -W 'path ring star grid complete tree random road forest slow busy farcore chainwake' -- "$word")); return; } ;;
-        explore) [[ $word == -* ]] && COMPREPLY=($(compgen -W '--protocol --wake --limit --print --end --progress -h --help' -- "$word")) ;;
+        explore) [[ $word == -* ]] && COMPREPLY=($(compgen -W '--protocol --book --wake --limit --print --end --progress -h --help' -- "$word")) ;;
     esac
     [[ $word == -* ]] || COMPREPLY=($(compgen -f -- "$word"))
 }
