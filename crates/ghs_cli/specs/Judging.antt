@@ -20,8 +20,10 @@ use Rattle.own_judge.specs.Verdict.{line, verdict}
 use Rattle.own_judge.specs.declared.end.End.{End}
 use Rattle.own_judge.specs.declared.end.End.TheVariants as end
 use Rattle.own_orders.specs.Outcome.{IsOutcome, ManyBy}
+use Rattle.own_orders.specs.Rows.{rows_text}
 use Rattle.own_orders.specs.declared.outcome.Outcome.{Outcome}
 use Rattle.own_orders.specs.declared.outcome.Outcome.TheVariants as outcome
+use Rattle.own_orders.specs.declared.rows.Rows.{Rows}
 use Rattle.peer_machine.specs.Explorable.{IsSmall}
 use Rattle.peer_texts.specs.Text.{trace_text}
 use Rattle.peer_network.specs.Network.{network_of}
@@ -97,9 +99,10 @@ HasJudged wake g es entries old new (Err (serve.NotLawful k)) = IsFirstUnlawful 
 HasJudged wake g es entries old new (Err serve.Memory) = new ≡ old
 HasJudged wake g es entries old new (Err fault) = ⊥
 
--- what is printed where the book agrees in every run, which lead to so many states
-abbrev pub agreed_text : ℕ → List ℕ
-agreed_text states = codes "the node agrees with the protocol in every run: " ++ decimal states ++ codes " states\n"
+-- what is printed where the book agrees in every run, which lead to so many states and by these rows
+abbrev pub agreed_text : ℕ → Rows → List ℕ
+agreed_text states rows =
+    codes "the node agrees with the protocol in every run: " ++ decimal states ++ codes " states\n" ++ rows_text rows
 
 -- what stands between what a shortest run tells and its events
 abbrev pub shortest : List ℕ
@@ -107,7 +110,7 @@ shortest = codes "the shortest order that leads there:\n"
 
 -- how the judging of all runs ends, and what is printed of it
 abbrev pub IsToldOf : Shape → List Entry → Outcome → End → List ℕ → Type 0
-IsToldOf g entries (outcome.Agrees states) e text = (e ≡ end.Agrees) × (text ≡ agreed_text states)
+IsToldOf g entries (outcome.Agrees states rows) e text = (e ≡ end.Agrees) × (text ≡ agreed_text states rows)
 IsToldOf g entries (outcome.Asks questions) e text = (e ≡ end.Asks) × (text ≡ flat_map line questions.items)
 IsToldOf g entries (outcome.Tells events) e text =
     (judged : List ℕ) × IsJudgement entries g events.items e judged × (text ≡ judged ++ shortest ++ trace_text events.items)
@@ -133,7 +136,7 @@ HasJudgedAll wake g entries limit old new (Err fault) = ⊥
 -- where a run is told, it is one
 abbrev pub IsRunTold : Shape → Outcome → Type 0
 IsRunTold g (outcome.Tells events) = IsRun (network_of g) events.items
-IsRunTold g (outcome.Agrees states) = Unit {0}
+IsRunTold g (outcome.Agrees states rows) = Unit {0}
 IsRunTold g (outcome.Asks questions) = Unit {0}
 
 -- why all runs of a graph aren't judged

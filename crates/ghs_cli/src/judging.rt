@@ -25,6 +25,7 @@ use own_judge::judge::{Judgement, judge, judge_stored};
 use own_judge::text::Question;
 use own_orders::orders::judge_orders;
 use own_orders::outcome::Outcome;
+use own_orders::rows::{Rows, put_rows};
 use peer_network::event::Event;
 use peer_network::wake_set::WakeSet;
 use peer_texts::trace::{EVENT_LIMIT, write_trace};
@@ -119,7 +120,8 @@ pub fn judge_run<W: Sink>(
 ///
 /// ```text
 /// let end = judge_all(alloc, WakeSet::All, graph, &book, 1_000_000, &mut out)?;
-/// // of a right node End::Agrees, and standard output has `the node agrees with the protocol in every run: 50 states`
+/// // of a right node End::Agrees, and standard output has `the node agrees with the protocol in every run: 50 states`,
+/// // and the rows that were met
 /// ```
 pub fn judge_all<W: Sink>(
     alloc: Global,
@@ -166,21 +168,22 @@ fn told_of(
     ensures { IfOk result (λ j. IsToldOf graph book.now outcome.now j.end j.text.items) }
 {
     match outcome {
-        Outcome::Agrees(states) => agreed(alloc, *states),
+        Outcome::Agrees(states, rows) => agreed(alloc, *states, rows),
         Outcome::Asks(questions) => asked(alloc, questions),
         Outcome::Tells(events) => told(alloc, graph, book, events),
     }
 }
 
-/// The line of a book that agrees.
-fn agreed(alloc: Global, states: usize) -> Result<Judgement, AllocError>
+/// The lines of a book that agrees.
+fn agreed(alloc: Global, states: usize, rows: &Rows) -> Result<Judgement, AllocError>
     ensures end { IfOk result (λ j. j.end ≡ End.Agrees) }
-    ensures text { IfOk result (λ j. j.text.items ≡ agreed_text states) }
+    ensures text { IfOk result (λ j. j.text.items ≡ agreed_text states rows.now) }
 {
     let mut text = Vec::new(alloc);
     text.extend_from_slice(b"the node agrees with the protocol in every run: ")?;
     put_number(&mut text, states as u128)?;
     text.extend_from_slice(b" states\n")?;
+    put_rows(&mut text, rows)?;
     Ok(Judgement {
         end: End::Agrees,
         text,
