@@ -10,30 +10,7 @@ const SUITS = { echo: { wake: 'first', end: 'quiet', check: 'spanning' }, ghs: {
 const many = (n, word) => n + ' ' + word + (n === 1 ? '' : 's');
 const escaped = s => String(s).replace(/[&<>"]/g, c => ({ '&': '&amp;', '<': '&lt;', '>': '&gt;', '"': '&quot;' })[c]);
 
-// ---- the proved code
-let box = null, room = 0n, roomSize = 1 << 18;
-function allot(n) {
-  const at = box.heap_take(BigInt(Math.max(1, n)));
-  if (!at) throw new Refused('The page is out of memory.');
-  return at;
-}
-function proved(f, graph, trace, ...more) {
-  const hold = text => { const bytes = new TextEncoder().encode(text), at = allot(bytes.length); new Uint8Array(box.memory.buffer).set(bytes, Number(at)); return [at, BigInt(bytes.length)]; };
-  const g = hold(graph), t = hold(trace);
-  for (;;) {
-    room = room || allot(roomSize);
-    const n = Number(f(here.wake === 'first' ? 1 : 0, ...g, ...t, ...more, room, BigInt(roomSize)));
-    if (n <= roomSize) {
-      const text = new TextDecoder().decode(new Uint8Array(box.memory.buffer, Number(room), n));
-      box.heap_free(g[0]);
-      box.heap_free(t[0]);
-      return text;
-    }
-    box.heap_free(room);
-    room = 0n;
-    roomSize = 2 * n;
-  }
-}
+const proved = (f, graph, trace) => answered(([g, t], bytes) => f(here.wake === 'first' ? 1 : 0, ...g, ...t, ...bytes), [graph, trace]);
 
 // ---- what is at hand: the graph, the rules or a book, and the run that is looked at
 const here = { graphText: null, graph: null, rulesText: null, rules: null, asked: null, book: null, net: null, wake: 'all' };
@@ -69,7 +46,7 @@ async function ready() {
 }
 const options = () => ({ wake: here.wake, end: $('end').value, check: $('check').value, limit: Math.max(1, Math.min(500000, +$('limit').value || 1)) });
 const seedNow = () => { const s = $('seed').value; if (!/^\d{1,20}$/.test(s) || BigInt(s) >= 1n << 64n) throw new Refused('A seed is a whole number below 2^64.'); return s; };
-function keep() { try { for (const id of ['rules', 'graph']) sessionStorage.setItem('own.' + id, here.book && id === 'rules' ? here.rulesText || '' : $(id).value); } catch { /* then nothing is kept */ } }
+function keep() { try { for (const id of ['rules', 'graph']) sessionStorage.setItem('own.' + id, id === 'rules' && (here.book || here.off) ? here.book && here.rulesText || '' : $(id).value); } catch { /* then nothing is kept */ } }
 
 // ---- commands, one at a time
 let busy = false, stopped = false;
@@ -84,6 +61,8 @@ const pause = {
     this.next = performance.now() + 60;
   },
 };
+// where an assumption of the network is switched off, only the search for what breaks knows of it
+function allow() { for (const b of document.querySelectorAll('#acts button')) b.disabled = b.id === 'stop' || !!here.off?.net; }
 function tell(how, html) { $('verdict').className = how; $('verdict').innerHTML = html; }
 const table = rows => '<table>' + rows.filter(r => r[1] !== undefined && r[1] !== '').map(([a, b]) => '<tr><th>' + a + '</th><td>' + escaped(b) + '</td></tr>').join('') + '</table>';
 const orderText = events => events.length ? (events.length > 1000 ? '.. the last 1000: ' : '') + events.slice(-1000).map(eventText).join('; ') : 'none: before the first event';
@@ -103,8 +82,8 @@ async function command(f) {
     else if (e instanceof Refused) tell('wrong', '<p>' + escaped(e.message) + '</p>');
     else tell('wrong', '<p>This page has a fault of its own: ' + escaped(e.message) + '</p>');
   } finally {
-    for (const b of document.querySelectorAll('#acts button')) b.disabled = b.id === 'stop';
     busy = false;
+    allow();
     delete document.body.dataset.busy;
     show();
   }
@@ -117,7 +96,8 @@ async function tellFault(e) {
   if (events.length && here.rules) await open(events.slice(0, -1));
 }
 async function open(events) {
-  here.net = new Net(here.rules, here.wake);
+  here.breaks = null;
+  here.net = new Net(here.rules, here.wake, here.off?.net);
   for (const e of events) await here.net.play(e);
 }
 const listed = list => list.length ? list.slice(0, 24).join(', ') + (list.length > 24 ? ', and ' + (list.length - 24) + ' more' : '') : 'none';
@@ -210,6 +190,127 @@ async function compareAll(rules, o) {
   tell('', '<p>Your node reacts as the proved node on every order of this network: ' + many(d.states, 'state') + ', ' + many(d.events, 'event') + '; ' + rows.size + ' of 23 rows were met.</p>');
 }
 
+// ---- a rule, or an assumption of the network, that is switched off
+const ruleNamed = name => WHY.rules.find(r => r.name === name);
+const graphText = links => { const l = links.split(',').map((x, i) => { const [ends, weight] = x.split('='); return [...ends.split('-').map(Number), weight || i + 1]; }); return 'p sp ' + Math.max(...l.flatMap(x => x.slice(0, 2))) + ' ' + l.length + '\n' + l.map(x => 'a ' + x.join(' ') + '\n').join(''); };
+// the rules of GHS with its lines changed; they have another name, which is in each trace and each book
+const rulesWithout = rule => (rule.edits || []).reduce((text, [old, by]) => text.replace(old, () => by), EXAMPLES.ghs).replace('class Ghs ', 'class NotGhs ');
+// the whole lines that a rule's edits take away and put there
+function changedLines(rule) {
+  const out = [];
+  let text = EXAMPLES.ghs;
+  for (const [old, by] of rule.edits || []) {
+    const at = text.indexOf(old), from = text.lastIndexOf('\n', at) + 1, to = (text + '\n').indexOf('\n', at + old.length);
+    const was = text.slice(from, to).split('\n'), now = (text.slice(from, at) + by + text.slice(at + old.length, to)).split('\n');
+    while (was.length && was[0] === now[0]) { was.shift(); now.shift(); }
+    while (was.length && was.at(-1) === now.at(-1)) { was.pop(); now.pop(); }
+    out.push(...was.map(x => ['del', x]), ...now.map(x => ['ins', x]));
+    text = text.replace(old, () => by);
+  }
+  return out.filter(([, line]) => line.trim());
+}
+const NOT = 'This is NOT the algorithm';
+function showRule() {
+  const rule = ruleNamed($('rule').value);
+  $('smallest').disabled = $('off').disabled = !rule;
+  $('off').textContent = here.off && rule === here.off ? 'search again' : 'switch it off';
+  $('rulewords').innerHTML = rule ? '<b>' + escaped(rule.rule) + '</b> Switched off: ' + escaped(rule.off) : '';
+  $('edit').hidden = !rule?.edits;
+  $('edit').innerHTML = rule ? changedLines(rule).map(([tag, line]) => '<' + tag + '>' + escaped(line.trim()) + '</' + tag + '>').join('') : '';
+}
+// marks the page as long as a rule is off
+function switched(rule) {
+  here.off = rule;
+  here.breaks = null;
+  document.documentElement.classList.toggle('off', !!rule);
+  if (!busy) allow();
+  $('odd').hidden = $('on').hidden = !rule;
+  $('odd').textContent = rule ? NOT + '. Switched off: ' + rule.rule : '';
+  $('claim').textContent = rule ? NOT + ': a rule is switched off. Nothing that this page shows of it is proved.' : here.claim;
+  showRule();
+}
+function switchOn() {
+  if (busy) return;
+  switched(null);
+  $('rules').value = EXAMPLES.ghs;
+  here.net = null;
+  tell('', '');
+  show();
+}
+function takeSmallest() {
+  const rule = ruleNamed($('rule').value);
+  if (busy || !rule) return;
+  $('graph').value = graphText(rule.graph);
+  here.fresh();
+}
+function switchOff() {
+  const rule = ruleNamed($('rule').value);
+  if (busy || !rule) return;
+  if (here.book) leaveBook();
+  switched(rule);
+  if (!/class (Not)?Ghs /.test($('rules').value)) suit('ghs');
+  $('rules').value = rulesWithout(rule);
+  // to the first line that is changed
+  const now = $('rules').value, was = EXAMPLES.ghs.replace('class Ghs ', 'class NotGhs '), same = [...now].findIndex((c, i) => c !== was[i]), lines = text => text.split('\n').length;
+  $('rules').scrollTop = same < 0 ? 0 : Math.max(0, lines(now.slice(0, same)) - 5) * $('rules').scrollHeight / lines(now);
+  here.net = null;
+  command(breaks);
+}
+// the search, in a Worker: it has the rules themselves, and the proved module
+async function searchOff({ rules, nodes, links, o, bent, bytes, graph, first }) {
+  const program = new OwnProgram((0, eval)('"use strict";' + rules + '\n;NotGhs')), known = await new Rules(new Graph(nodes, links), { ask: async q => program.answer(q) }).begin();
+  const pause = { next: 0, due() { return performance.now() > this.next; }, async now(states) { ownPost({ states }); this.next = performance.now() + 100; } };
+  const told = await whatBreaks(known, o, bent, pause);
+  await startBox(bytes);
+  ownPost({ told, right: first === null ? null : provedAll(graph, first, o.limit) });
+}
+const searcher = () => LIBRARY + $('search').textContent + searchOff + '\nself.onmessage = e => searchOff(e.data).catch(e => ownPost({ amiss: e.message }));\n';
+function searched(what) {
+  return new Promise((done, fail) => {
+    const url = URL.createObjectURL(new Blob([searcher()], { type: 'text/javascript' })), worker = new Worker(url);
+    let so_far = '';
+    const end = f => { worker.terminate(); URL.revokeObjectURL(url); here.halt = null; f(); };
+    here.halt = () => end(() => fail(new Refused('Stopped' + (so_far && ' after ' + so_far) + '; nothing is said of the rest.')));
+    worker.onmessage = ({ data }) => {
+      if (data.told) end(() => done(data));
+      else if (data.amiss) end(() => fail(new Refused(data.amiss)));
+      else if (data.states) tell('wrong', '<p><b>' + NOT + '.</b> ' + escaped(so_far = data.states) + ' so far.</p>');
+      else worker.postMessage(what);
+    };
+    worker.onerror = e => { e.preventDefault(); end(() => fail(new Refused('The search ended: ' + e.message))); };
+  });
+}
+// what the proved module says of all orders with the rule on: {most, bound, words}
+function withRule(text) {
+  if (text === null) return { words: 'With the rule on, this choice of wakers was not searched.' };
+  if (text.startsWith('{"fault"')) return { words: 'With the rule on, the proved module did not search this network: ' + JSON.parse(text).words + '. That no run of GHS breaks is proved for each network.' };
+  const lines = text.split('\n').map(x => x.split(' ')), [, least, most, bound] = lines.find(x => x[0] === 'r'), states = lines.find(x => x[0] === 'x')[1];
+  return { most: +most, bound: +bound, words: 'With the rule on, no run of this network breaks, as is proved for each network; the proved module searched all orders of this one to the end: ' + many(+states, 'state') + ', ' + between(least, most) + ' messages.' };
+}
+async function breaks(rules, o) {
+  const rule = here.off, { nodes, links } = here.graph, first = { all: false, first: true }[o.wake] ?? null;
+  const found = await searched({ rules: $('rules').value, nodes, links, o, bent: rule.net || {}, bytes: here.bytes, graph: here.graphText, first }), told = found.told, right = withRule(found.right);
+  if (told.most > right.bound) told.faults.set('bound', { words: 'a run sends ' + told.most + ' messages, and the bound is ' + right.bound });
+  if (!told.faults.size && told.most > right.most) told.faults.set('more', { words: 'a run sends ' + told.most + ' messages; with the rule no run sends more than ' + right.most });
+  here.broken = told.faults;
+  const events = f => f.way ? f.way.length + (f.event ? 1 : 0) : Infinity, list = [...told.faults].sort((a, b) => events(a[1]) - events(b[1])), best = told.faults.get(rule.shows)?.way ? rule.shows : list.find(([, f]) => f.way)?.[0];
+  const row = ([fault, f]) => '<tr><td>' + (f.way ? '<button data-fault="' + fault + '">' + many(events(f), 'event') + '</button>' : '') + '</td><td><b>' + escaped(WHY.faults[fault]) + '</b>: ' + escaped(f.words) + '.</td></tr>';
+  const extent = told.whole ? 'All orders of this network: ' + many(told.states, 'state') + '.' : 'The search stopped at ' + told.states + ' states, and says nothing of the rest, nor of runs that never end.';
+  tell('wrong', '<p><b>' + NOT + '.</b> Switched off: ' + escaped(rule.rule) + '</p>' +
+    (list.length ? '<p>What breaks, each in a shortest run:</p><table class="broken">' + list.map(row).join('') + '</table><p>' + escaped(rule.why) + '</p>' : '<p>On this network nothing ' + (told.whole ? 'breaks' : 'was seen to break') + (rule.shows ? '. Take the smallest network of this rule.' : ': ' + escaped(rule.why)) + '</p>') +
+    '<p>' + extent + ' ' + escaped(right.words) + '</p>');
+  if (best) await openBroken(best); else here.net = null;
+  $('verdict').scrollIntoView({ block: 'nearest' });
+}
+// the run that shows it; a message that has no rule isn't taken
+async function openBroken(fault) {
+  const f = here.broken.get(fault);
+  await open([...f.way, ...(f.round || [])]);
+  here.breaks = { at: f.way.length, words: WHY.faults[fault] + ': ' + f.words };
+}
+
+const suit = name => { for (const k in SUITS[name]) $(k).value = SUITS[name][k]; };
+
 // ---- files
 function save(text, name) {
   const link = document.createElement('a');
@@ -221,6 +322,7 @@ function save(text, name) {
 function takeBook(text) {
   try {
     const book = readBook(text);
+    switched(null);
     Object.assign(here, { book, rules: null, net: null, last: { book } });
     $('source').textContent = '(a book of ' + book.size + ' answers is loaded, and answers in their place)';
     $('rules').disabled = true;
@@ -289,6 +391,8 @@ function draw(net, step) {
     el('text', { x: at[v][0], y: at[v][1] }, g).textContent = v;
   }
 }
+// what breaks at an event, in words
+const broken = at => here.breaks && here.breaks.at === at ? ' <b>Here it breaks: ' + escaped(here.breaks.words) + '.</b>' : '';
 function show() {
   const net = here.net, n = net ? net.steps.length : 0, at = net ? net.at : 0, step = at > 0 ? net.steps[at - 1] : null;
   $('seek').max = n;
@@ -305,10 +409,17 @@ function show() {
   const lines = [];
   for (let v = 1; v <= net.graph.nodes; v++) net.queues[v].forEach((q, p) => { if (q.length) lines.push('<tr><td>node ' + v + ', port ' + p + ', from node ' + far(v, p) + '</td><td>' + q.slice(0, 50).map(escaped).join(', ') + (q.length > 50 ? ', and ' + (q.length - 50) + ' more' : '') + '</td></tr>'); });
   $('queues').innerHTML = lines.length ? '<table>' + lines.join('') + '</table>' : 'none';
-  if (!step) { $('say').textContent = 'The opening: all nodes sleep.'; $('line').textContent = ''; return; }
+  $('say').className = broken(at) && 'breaks';
+  if (!step) { $('say').innerHTML = 'The opening: all nodes sleep.' + broken(0); $('line').textContent = ''; return; }
   const then = varsOf(step.told.state), changes = Object.keys(then).filter(k => was[k] !== then[k]).map(k => k + ' ' + (was[k] ?? 'none') + ' becomes ' + then[k]);
-  $('say').innerHTML = '<b>Event ' + at + '</b>: node ' + step.v + (step.p === null ? ' wakes by itself' : ' takes ' + escaped(step.m) + ' on port ' + step.p + ', from node ' + far(step.v, step.p) + (step.told.waits ? ', and it waits' : '')) + '. ' +
-    (step.told.sends.length ? 'It sends ' + step.told.sends.map(([p, m]) => escaped(m) + ' to node ' + far(step.v, p)).join(', ') + '. ' : 'It sends nothing. ') + (changes.length ? escaped(changes.join('; ')) + '.' : 'No variable changes.');
+  const on = step.p === null ? '' : escaped(step.m) + ' on port ' + step.p + ', from node ' + far(step.v, step.p);
+  if (step.how === 'lose' || step.how === 'twice') {
+    $('say').innerHTML = '<b>Event ' + at + '</b>: the message ' + on + ' to node ' + step.v + (step.how === 'lose' ? ' is lost.' : ' is there once more, at the end of its queue.') + broken(at);
+    $('line').textContent = '';
+    return;
+  }
+  $('say').innerHTML = '<b>Event ' + at + '</b>: node ' + step.v + (step.p === null ? ' wakes by itself' : ' takes ' + on + (step.how > 0 ? ', past ' + (step.how === 1 ? 'the message' : step.how + ' messages') + ' in front of it' : '') + (step.told.waits ? net.keeps(step) ? ', and it waits' : ', and it is thrown away' : '')) + '. ' +
+    (step.told.sends.length ? 'It sends ' + step.told.sends.map(([p, m]) => escaped(m) + ' to node ' + far(step.v, p)).join(', ') + '. ' : 'It sends nothing. ') + (changes.length ? escaped(changes.join('; ')) + '.' : 'No variable changes.') + broken(at);
   const q = here.rules.question(step.v, step.p, step.m, step.old);
   $('line').textContent = lineOf(q, here.rules.book.get(q));
 }
@@ -321,22 +432,32 @@ async function start() {
   const pick = (id, from) => { $(id).innerHTML = '<option value="">choose ..</option>' + Object.keys(from).map(k => '<option>' + k + '</option>').join(''); };
   pick('example', EXAMPLES);
   pick('network', NETWORKS);
+  here.claim = $('claim').textContent;
+  const offered = (label, list) => '<optgroup label="' + label + '">' + list.map(r => '<option value="' + r.name + '">' + escaped(r.rule) + (r.net ? ' ' + escaped(r.off) : '') + '</option>').join('') + '</optgroup>';
+  $('rule').innerHTML = '<option value="">choose ..</option>' + offered('rules of a node', WHY.rules.filter(r => !r.net)) + offered('what the network promises', WHY.rules.filter(r => r.net));
   const kept = id => { try { return sessionStorage.getItem('own.' + id); } catch { return null; } };
   $('rules').value = kept('rules') || EXAMPLES.ghs;
   $('graph').value = kept('graph') || NETWORKS.triangle;
   try {
-    box = (await WebAssembly.instantiate(Uint8Array.from(atob($('module').textContent.trim()), c => c.charCodeAt(0)), {})).instance.exports;
+    await startBox(here.bytes = Uint8Array.from(atob($('module').textContent.trim()), c => c.charCodeAt(0)));
     readGraph();
   } catch (e) { tell('wrong', '<p>' + escaped(e instanceof Refused ? e.message : 'This browser cannot start the proved code: ' + e.message) + '</p>'); if (!box) return; }
-  const suit = name => { for (const k in SUITS[name]) $(k).value = SUITS[name][k]; };
   suit(/class\s+Echo\b/.test($('rules').value) ? 'echo' : 'ghs');
-  $('example').onchange = e => { const name = e.target.value; if (!name || busy) return; if (here.book) leaveBook(); $('rules').value = EXAMPLES[name]; suit(name); here.net = null; tell('', ''); show(); e.target.value = ''; };
+  $('example').onchange = e => { const name = e.target.value; if (!name || busy) return; if (here.book) leaveBook(); switched(null); $('rules').value = EXAMPLES[name]; suit(name); here.net = null; tell('', ''); show(); e.target.value = ''; };
   $('network').onchange = e => { if (!e.target.value || busy) return; $('graph').value = NETWORKS[e.target.value]; fresh(); e.target.value = ''; };
-  const fresh = () => { try { readGraph(); tell('', ''); } catch (e) { tell('wrong', '<p>' + escaped(e.message) + '</p>'); } show(); };
+  const fresh = here.fresh = () => { try { readGraph(); tell('', ''); } catch (e) { tell('wrong', '<p>' + escaped(e.message) + '</p>'); } show(); };
   $('graph').onchange = () => { if (!busy) fresh(); };
   for (const [id, f] of [['run', runOne], ['hundred', hundred], ['orders', orders], ['compare', compare], ['compareall', compareAll]]) $(id).onclick = () => command(f);
-  $('stop').onclick = () => { stopped = true; };
-  $('verdict').onclick = e => { const seed = e.target.dataset?.seed; if (seed !== undefined) { $('seed').value = seed; command(runOne); } };
+  $('stop').onclick = () => { stopped = true; here.halt?.(); };
+  $('rule').onchange = showRule;
+  $('smallest').onclick = takeSmallest;
+  $('off').onclick = switchOff;
+  $('on').onclick = switchOn;
+  $('verdict').onclick = e => {
+    const fault = e.target.dataset?.fault;
+    if (fault && !busy) openBroken(fault).then(show);
+    const seed = e.target.dataset?.seed; if (seed !== undefined) { $('seed').value = seed; command(runOne); }
+  };
   $('saverules').onclick = () => save($('rules').value, 'rules.js');
   $('savegraph').onclick = () => save($('graph').value, 'graph.gr');
   $('savebook').onclick = () => save(bookText(here.last.book), 'node.book');
@@ -356,6 +477,8 @@ async function start() {
     if (to !== undefined) { e.preventDefault(); move(to); }
   });
   addEventListener('resize', () => { if (!busy) show(); });
+  const named = ruleNamed(decodeURIComponent(location.hash).replace(/^#why=/, ''));
+  if (named) { $('whybox').open = true; $('rule').value = named.name; showRule(); takeSmallest(); }
   show();
   document.body.dataset.ready = 'yes';
 }
