@@ -17,7 +17,7 @@ impl Measured for Boruvka {
 
     ghost is_of = { λ g w. w ≡ widths_of g };
 
-    fn scale_of(graph: &Graph) -> Widths {
+    fn scale_of(_setting: (), graph: &Graph) -> Widths {
         Widths::of(graph)
     }
 

@@ -10,7 +10,7 @@ impl Measured for Echo {
 
     ghost is_of = { λ g s. Unit {0} };
 
-    fn scale_of(_graph: &Graph) {}
+    fn scale_of(_setting: (), _graph: &Graph) {}
 
     fn bits(_scale: (), _message: Message) -> u32 {
         1

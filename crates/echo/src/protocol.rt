@@ -5,6 +5,7 @@ ghost use Rattle.echo.specs.Echo.{echo, after, explores, echoes, joined, answere
 use crate::node::{Change, Head, Message, Node};
 use ghs_graph::graph::Graph;
 use ghs_graph::port::Port;
+use peer_machine::fixed::Fixed;
 use peer_machine::protocol::Protocol;
 use peer_machine::work::{Answer, Work};
 use std::alloc::{AllocError, Global};
@@ -12,7 +13,7 @@ use std::alloc::{AllocError, Global};
 /// The echo wave.
 ///
 /// ```text
-/// let mut net = Net::<Echo>::open(alloc, graph)?;   // of the path 1-2-3
+/// let mut net = Net::<Echo>::open(alloc, (), graph)?;   // of the path 1-2-3
 /// net.play(alloc, Event::Wake(1))?;
 /// // now an Explore waits at port 0 of node 2: net.front(2, 0) is Some(Message::Explore)
 /// ```
@@ -30,13 +31,17 @@ impl Protocol for Echo {
 
     type Change = Change;
 
+    type Setting = ();
+
+    ghost goes_by = { λ _. Unit {0} };
+
     ghost rules = { echo };
 
     ghost after = { changed };
 
     ghost bound = { bound_of };
 
-    fn open(_alloc: Global, _v: u32, ports: &[Port]) -> Result<Node, AllocError> {
+    fn open(_alloc: Global, _setting: (), _v: u32, ports: &[Port]) -> Result<Node, AllocError> {
         Ok(Node {
             ports: ports.len() as u32,
             head: Head {
@@ -53,6 +58,7 @@ impl Protocol for Echo {
 
     fn react(
         alloc: Global,
+        _setting: (),
         node: &Node,
         work: Work<Message>,
     ) -> Result<Answer<Change, Message>, AllocError>
@@ -71,7 +77,7 @@ impl Protocol for Echo {
         }
     }
 
-    fn defers(_node: &Node, _work: Work<Message>) -> bool
+    fn defers(_setting: (), _node: &Node, _work: Work<Message>) -> bool
         ensures { result ≡ echo.defers _node.now _work }
     {
         false
@@ -90,18 +96,18 @@ impl Protocol for Echo {
         }
     }
 
-    fn kinds() -> usize {
+    fn kinds(_setting: ()) -> usize {
         2
     }
 
-    fn kind(message: Message) -> usize {
+    fn kind(_setting: (), message: Message) -> usize {
         match message {
             Message::Explore => 0,
             Message::Echo => 1,
         }
     }
 
-    fn bound_of(graph: &Graph) -> u64 {
+    fn bound_of(_setting: (), graph: &Graph) -> u64 {
         graph.keys().len() as u64 * 2
     }
 
@@ -112,6 +118,11 @@ impl Protocol for Echo {
     ghost is_bounded = { echo_bound };
 
     ghost bound_fits = { echo_fits };
+}
+
+/// The wave's rules depend on nothing.
+impl Fixed for Echo {
+    fn setting() {}
 }
 
 /// A node takes part in the wave: it wakes, asks on, and answers at once where it has nobody to ask.

@@ -13,6 +13,7 @@ use peer_explore::explored::Explored;
 use peer_explore::fault::ExploreFault;
 use peer_explore::laws::law_range;
 use peer_machine::explorable::Explorable;
+use peer_machine::fixed::Fixed;
 use peer_report::explored_text::explored_text;
 use peer_trace::protocol::Protocol;
 use peer_trace::trace::write_trace_of;
@@ -20,7 +21,7 @@ use peer_words::spoken::Spoken;
 use std::alloc::{AllocError, Global};
 
 /// What is found of all runs of a graph. Stored events name the protocol.
-pub(crate) fn found<P: Explorable + Spoken, R: Eprint>(
+pub(crate) fn found<P: Explorable + Spoken + Fixed, R: Eprint>(
     rt: &R,
     alloc: Global,
     protocol: Protocol,
@@ -32,7 +33,14 @@ pub(crate) fn found<P: Explorable + Spoken, R: Eprint>(
     ensures fault { IfErr result (FindsNothing P.rules options.now graph.now) }
 {
     let teller = Teller::new(rt, options.progress);
-    match explore_watched::<P, Teller<R>>(alloc, graph, options.wake, options.limit, &teller) {
+    match explore_watched::<P, Teller<R>>(
+        alloc,
+        P::setting(),
+        graph,
+        options.wake,
+        options.limit,
+        &teller,
+    ) {
         Ok(explored) => found_text(alloc, protocol, options, graph, &explored),
         Err(ExploreFault::TooLarge) => Err(ServeFault::TooLargeToExplore),
         Err(ExploreFault::TooMany) => Err(ServeFault::StateLimit {

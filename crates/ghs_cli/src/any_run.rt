@@ -21,6 +21,7 @@ use ghs_gr::device::Sink;
 use ghs_graph::graph::Graph;
 use ghs_report::report_text::ReportFault;
 use peer_machine::ends::FindsTree;
+use peer_machine::fixed::Fixed;
 use peer_machine::measured::Measured;
 use peer_network::event::Event;
 use peer_network::wake_set::WakeSet;
@@ -130,7 +131,7 @@ pub(crate) fn replayed<P: FindsTree + Spoken>(
     ensures text { IfOk result (λ text. IsReplayed P.rules P.has_ended P.words.kind P.bound P.is_branch P.found wake graph events.now text.items) }
     ensures fault { IfErr result (λ fault. IsRunCause P.rules P.has_ended wake graph events.now fault) }
 {
-    match replay::<P>(alloc, graph, wake, events) {
+    match replay::<P>(alloc, P::setting(), graph, wake, events) {
         Ok(world) => finished(alloc, &world),
         Err((_, fault)) => Err(fault.into()),
     }
@@ -152,7 +153,7 @@ fn finished<P: FindsTree + Spoken>(alloc: Global, world: &World<P>) -> Result<Ve
 }
 
 /// Writes the lines of the chosen steps of events, once they are known to be a run of a graph.
-pub(crate) fn told<P: Spoken, W: Sink>(
+pub(crate) fn told<P: Spoken + Fixed, W: Sink>(
     alloc: Global,
     options: &StepsOptions,
     graph: Graph,
@@ -167,6 +168,7 @@ pub(crate) fn told<P: Spoken, W: Sink>(
 {
     write_steps::<P, W>(
         alloc,
+        P::setting(),
         graph,
         options.wake,
         events,

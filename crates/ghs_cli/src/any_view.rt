@@ -60,7 +60,14 @@ fn page_of<P: Ends + Viewed>(
 {
     let net = world.net();
     let graph = net.graph().copy(alloc)?;
-    match run_page::<P>(alloc, graph, net.trace(), options.from, options.to) {
+    match run_page::<P>(
+        alloc,
+        net.setting(),
+        graph,
+        net.trace(),
+        options.from,
+        options.to,
+    ) {
         Ok(text) => Ok(text),
         Err(PageFault::TooLarge) => Err(ServeFault::PageTooLarge),
         Err(PageFault::Memory) => Err(ServeFault::Memory),
@@ -121,6 +128,7 @@ fn pair_page_of<P: Ends + Viewed>(
     let graph = net.graph().copy(alloc)?;
     match pair_page::<P>(
         alloc,
+        net.setting(),
         graph,
         net.trace(),
         other.trace(),
@@ -143,7 +151,15 @@ pub(crate) fn stored_viewed<P: Ends + Viewed>(
     ensures text { IfOk result (λ text. IsStoredView P.rules (IsRunPage P.rules P.words P.looks P.bound) options.now graph events.now text.items) }
     ensures fault { IfErr result (λ fault. HasNoStoredView P.rules options.now graph events.now fault) }
 {
-    match stored_page::<P>(alloc, graph, options.wake, events, options.from, options.to) {
+    match stored_page::<P>(
+        alloc,
+        P::setting(),
+        graph,
+        options.wake,
+        events,
+        options.from,
+        options.to,
+    ) {
         Ok(text) => Ok(text),
         Err(StoredFault::NotLawful(event)) => Err(ServeFault::NotLawful(event)),
         Err(StoredFault::TooLarge) => Err(ServeFault::PageTooLarge),

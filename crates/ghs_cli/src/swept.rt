@@ -92,8 +92,8 @@ pub(crate) fn bound_by(protocol: Protocol, graph: &Graph) -> u64
 {
     match protocol {
         Protocol::Ghs => bound(graph.nodes(), graph.links()),
-        Protocol::Boruvka => Boruvka::bound_of(graph),
-        Protocol::Echo => Echo::bound_of(graph),
+        Protocol::Boruvka => Boruvka::bound_of((), graph),
+        Protocol::Echo => Echo::bound_of((), graph),
     }
 }
 

@@ -14,7 +14,7 @@ use std::alloc::{AllocError, Global};
 pub(crate) fn time_text_of<P: Measured>(alloc: Global, net: &Net<P>) -> Result<Vec<u8>, AllocError>
     ensures { IfOk result (λ text. text.items ≡ timed_text P.rules net.now.graph net.now.trace) }
 {
-    let lengths = lengths_of::<P>(alloc, net.graph(), net.trace())?;
+    let lengths = lengths_of::<P>(alloc, net.setting(), net.graph(), net.trace())?;
     let mut text = Vec::new(alloc);
     put_chain(&mut text, lengths.chain)?;
     put_bits(&mut text, lengths.bits, lengths.longest)?;

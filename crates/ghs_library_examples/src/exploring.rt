@@ -9,6 +9,7 @@ use ghs_test_graphs::graphs::PATH_OF_THREE;
 use peer_explore::explore::explore_watched;
 use peer_explore::watch::Unwatched;
 use peer_machine::explorable::Explorable;
+use peer_machine::fixed::Fixed;
 use peer_network::event::Event;
 use peer_network::wake_set::WakeSet;
 use peer_report::explored_text::explored_text;
@@ -17,16 +18,25 @@ use std::alloc::Global;
 use std::process::Abort;
 
 /// With which counts of messages the runs of a small network end, under any protocol.
-pub fn ends_of<P: Explorable + Spoken>(alloc: Global, graph: &Graph) -> Result<Vec<u8>, Fault> {
+pub fn ends_of<P: Explorable + Spoken + Fixed>(
+    alloc: Global,
+    graph: &Graph,
+) -> Result<Vec<u8>, Fault> {
     let wake = WakeSet::All;
-    let found = explore_watched::<P, Unwatched>(alloc, graph, wake, 1_000_000, &Unwatched)?;
+    let setting = P::setting();
+    let found = explore_watched::<P, Unwatched>(
+        alloc, setting, graph, wake, 1_000_000, &Unwatched,
+    )?;
     Ok(explored_text(alloc, &found)?)
 }
 
 /// A run that sends as few messages as any.
-pub fn fewest<P: Explorable>(alloc: Global, graph: &Graph) -> Result<Vec<Event>, Fault> {
+pub fn fewest<P: Explorable + Fixed>(alloc: Global, graph: &Graph) -> Result<Vec<Event>, Fault> {
     let wake = WakeSet::All;
-    let found = explore_watched::<P, Unwatched>(alloc, graph, wake, 1_000_000, &Unwatched)?;
+    let setting = P::setting();
+    let found = explore_watched::<P, Unwatched>(
+        alloc, setting, graph, wake, 1_000_000, &Unwatched,
+    )?;
     let _ = found.rows(); // only for its contract: there is a row
     Ok(found.run(alloc, 0)?)
 }

@@ -27,16 +27,25 @@ pub fn steps_of(alloc: Global, graph: Graph, stored: &[u8]) -> Result<Vec<u8>, F
     let form = Form::Text;
     let mut lines = Vec::new(alloc);
     let mut out = Device::of(&mut lines);
-    write_steps::<Echo, _>(alloc, graph, WakeSet::All, &events, &all, form, &mut out)?;
+    write_steps::<Echo, _>(
+        alloc,
+        (),
+        graph,
+        WakeSet::All,
+        &events,
+        &all,
+        form,
+        &mut out,
+    )?;
     Ok(lines)
 }
 
 /// How long the run is.
 pub fn lengths_of_stored(alloc: Global, graph: Graph, stored: &[u8]) -> Result<Lengths, Fault> {
     let events = read_trace_of(alloc, Protocol::Echo, stored)?;
-    let world = replay::<Echo>(alloc, graph, WakeSet::All, &events)?;
+    let world = replay::<Echo>(alloc, (), graph, WakeSet::All, &events)?;
     let net = world.net();
-    Ok(lengths_of::<Echo>(alloc, net.graph(), net.trace())?)
+    Ok(lengths_of::<Echo>(alloc, (), net.graph(), net.trace())?)
 }
 
 /// The wave on the path 1-2-3 that node 1 begins.

@@ -10,6 +10,7 @@ use peer_explore::fault::ExploreFault;
 use peer_explore::laws::law_range;
 use peer_explore::watch::Unwatched;
 use peer_machine::explorable::Explorable;
+use peer_machine::fixed::Fixed;
 use peer_network::wake_set::WakeSet;
 use peer_report::explored_text::explored_text;
 use peer_trace::protocol::Protocol;
@@ -18,7 +19,7 @@ use peer_words::spoken::Spoken;
 use std::alloc::{AllocError, Global};
 
 /// What is told of all runs of a graph. Stored runs name the protocol. Refusal: out of memory.
-pub(crate) fn told_by<P: Explorable + Spoken>(
+pub(crate) fn told_by<P: Explorable + Spoken + Fixed>(
     alloc: Global,
     protocol: Protocol,
     wake: WakeSet,
@@ -28,7 +29,7 @@ pub(crate) fn told_by<P: Explorable + Spoken>(
     requires { 1 ≤ limit }
     ensures { IfOk result (λ text. IsTold (by_any P.rules P.words.kind P.bound protocol) graph.now wake limit text.items) }
 {
-    match explore_watched::<P, Unwatched>(alloc, graph, wake, limit, &Unwatched) {
+    match explore_watched::<P, Unwatched>(alloc, P::setting(), graph, wake, limit, &Unwatched) {
         Ok(explored) => outcomes_text(alloc, protocol, wake, limit, graph, &explored),
         Err(ExploreFault::TooLarge) => too_large(alloc),
         Err(ExploreFault::TooMany) => too_many(alloc, limit),

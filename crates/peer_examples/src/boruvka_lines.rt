@@ -108,6 +108,7 @@ fn steps_of(
     let mut writer = Device::of(&mut written);
     let answer = write_steps::<Boruvka, _>(
         alloc,
+        (),
         graph,
         WakeSet::All,
         events,
@@ -172,14 +173,14 @@ fn assert_put(
     lines: &str,
 ) {
     let graph = graph_of_text(rt, alloc, graph);
-    let world = match replay::<Boruvka>(alloc, graph, WakeSet::All, events) {
+    let world = match replay::<Boruvka>(alloc, (), graph, WakeSet::All, events) {
         Ok(world) => world,
         Err(_) => panic!(rt; "a run"),
     };
     // Read for its clause: the events are a run.
     let _ = world.net();
     let mut text = Vec::new(alloc);
-    let net = put_lines::<Boruvka>(alloc, world.into_graph(), events, form, &mut text).expect(
+    let net = put_lines::<Boruvka>(alloc, (), world.into_graph(), events, form, &mut text).expect(
         rt, "memory",
     );
     assert_eq!(rt; net.trace(), events);

@@ -42,7 +42,7 @@ fn pair_of_run(rt: &impl Abort, alloc: Global, events: &[Event]) -> Graph
     ensures { IsRun boruvka (network_of result) events.now }
 {
     let graph = graph_of_text(rt, alloc, PAIR);
-    let world = match replay::<Boruvka>(alloc, graph, WakeSet::All, events) {
+    let world = match replay::<Boruvka>(alloc, (), graph, WakeSet::All, events) {
         Ok(world) => world,
         Err(_) => panic!(rt; "a run"),
     };
@@ -54,7 +54,7 @@ fn pair_of_run(rt: &impl Abort, alloc: Global, events: &[Event]) -> Graph
 #[test]
 fn the_data_of_a_pair(rt: HostRuntime) {
     let graph = pair_of_run(&rt, rt.alloc(), &PAIR_RUN);
-    let data = data_of::<Boruvka>(rt.alloc(), graph, &PAIR_RUN, 5, 1).expect(&rt, "memory");
+    let data = data_of::<Boruvka>(rt.alloc(), (), graph, &PAIR_RUN, 5, 1).expect(&rt, "memory");
     assert!(rt; data.starts_with(HEAD.as_bytes()));
     let mut end = Vec::new(rt.alloc());
     end.extend_from_slice(LINK.as_bytes()).expect(&rt, "memory");
@@ -70,11 +70,11 @@ fn pages_of_a_pair(rt: HostRuntime) {
     let alloc = rt.alloc();
     let graph = pair_of_run(&rt, alloc, &PAIR_RUN);
     let same = pair_of_run(&rt, alloc, &PAIR_RUN);
-    let page = run_page::<Boruvka>(alloc, graph, &PAIR_RUN, 1, 2)
+    let page = run_page::<Boruvka>(alloc, (), graph, &PAIR_RUN, 1, 2)
         .ok()
         .expect(&rt, "a page");
     assert!(rt; page.starts_with(DOCUMENT));
-    let both = pair_page::<Boruvka>(alloc, same, &PAIR_RUN, &PAIR_RUN, 1, 2)
+    let both = pair_page::<Boruvka>(alloc, (), same, &PAIR_RUN, &PAIR_RUN, 1, 2)
         .ok()
         .expect(&rt, "a page");
     assert!(rt; both.starts_with(DOCUMENT));
@@ -86,9 +86,9 @@ fn no_page_of_what_is_no_run(rt: HostRuntime) {
     let alloc = rt.alloc();
     let twice = [Event::Wake(1), Event::Wake(1)];
     let graph = graph_of_text(&rt, alloc, PAIR);
-    let refused = stored_page::<Boruvka>(alloc, graph, WakeSet::All, &twice, 1, 9);
+    let refused = stored_page::<Boruvka>(alloc, (), graph, WakeSet::All, &twice, 1, 9);
     assert_eq!(rt; refused.err(), Some(StoredFault::NotLawful(2)));
     let graph = graph_of_text(&rt, alloc, PAIR);
-    let shown = stored_page::<Boruvka>(alloc, graph, WakeSet::All, &PAIR_RUN, 1, 9);
+    let shown = stored_page::<Boruvka>(alloc, (), graph, WakeSet::All, &PAIR_RUN, 1, 9);
     assert!(rt; shown.is_ok());
 }

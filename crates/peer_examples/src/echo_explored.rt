@@ -29,7 +29,7 @@ fn assert_explored(
     ends: &[(u16, u16)],
 ) {
     let graph = graph_of_text(rt, alloc, text);
-    let explored = explore_watched::<Echo, Unwatched>(alloc, &graph, wake, 10_000, &Unwatched);
+    let explored = explore_watched::<Echo, Unwatched>(alloc, (), &graph, wake, 10_000, &Unwatched);
     let found = explored.ok().expect(rt, "few states");
     assert_eq!(rt; found.states(), states, "of {text:?}");
     let rows = found.rows();

@@ -56,6 +56,7 @@ fn assert_lines(
     let mut writer = Device::of(&mut written);
     let answer = write_steps::<Echo, _>(
         alloc,
+        (),
         graph,
         WakeSet::All,
         events,

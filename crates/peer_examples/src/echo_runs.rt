@@ -27,7 +27,7 @@ fn fault_of(
     wake: WakeSet,
     events: &[Event],
 ) -> Option<ReplayFault> {
-    match replay::<Echo>(alloc, graph_of_text(rt, alloc, text), wake, events) {
+    match replay::<Echo>(alloc, (), graph_of_text(rt, alloc, text), wake, events) {
         Ok(_) => None,
         Err((_, fault)) => Some(fault),
     }
@@ -140,7 +140,7 @@ fn done_again(
     events: &[Event],
 ) -> World<Echo> {
     let graph = graph_of_text(rt, alloc, text);
-    replay::<Echo>(alloc, graph, wake, events)
+    replay::<Echo>(alloc, (), graph, wake, events)
         .ok()
         .expect(rt, "a world")
 }

@@ -28,7 +28,7 @@ fn assert_run<P: Ends>(
     stops: Result<(), RunFault>,
 ) {
     let graph = graph_of_text(rt, alloc, text);
-    match World::<P>::open(alloc, graph, wake) {
+    match World::<P>::open(alloc, P::setting(), graph, wake) {
         Ok(mut world) => {
             let end = run_lifo(alloc, &mut world, schedule, turns);
             assert!(rt; end == stops);

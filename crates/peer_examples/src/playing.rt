@@ -3,6 +3,7 @@ use ghs_graph::graph::Graph;
 use ghs_test_graphs::build::graph_of;
 use peer_lengths::lengths::{Lengths, lengths_of};
 use peer_machine::event::Event;
+use peer_machine::fixed::Fixed;
 use peer_machine::measured::Measured;
 use peer_machine::protocol::Protocol;
 use peer_net::net::Net;
@@ -17,20 +18,17 @@ pub fn graph_of_text(rt: &impl Abort, alloc: Global, text: &str) -> Graph {
 }
 
 /// The opening net of the graph of a text.
-pub fn net_of<P: Protocol>(rt: &impl Abort, alloc: Global, text: &str) -> Net<P> {
+pub fn net_of<P: Fixed>(rt: &impl Abort, alloc: Global, text: &str) -> Net<P> {
     let graph = graph_of_text(rt, alloc, text);
-    Net::<P>::open(alloc, graph).ok().expect(rt, "a net")
+    Net::<P>::open(alloc, P::setting(), graph)
+        .ok()
+        .expect(rt, "a net")
 }
 
 /// The opening world of the graph of a text.
-pub fn world_of<P: Protocol>(
-    rt: &impl Abort,
-    alloc: Global,
-    text: &str,
-    wake: WakeSet,
-) -> World<P> {
+pub fn world_of<P: Fixed>(rt: &impl Abort, alloc: Global, text: &str, wake: WakeSet) -> World<P> {
     let graph = graph_of_text(rt, alloc, text);
-    World::<P>::open(alloc, graph, wake)
+    World::<P>::open(alloc, P::setting(), graph, wake)
         .ok()
         .expect(rt, "a world")
 }
@@ -68,7 +66,7 @@ pub fn let_go<P: Protocol>(_net: Net<P>) {}
 pub fn leave<P: Protocol>(_world: World<P>) {}
 
 /// How long the run of the graph of a text is that has these events, all of which have to be lawful.
-fn length_of_run<P: Measured>(
+fn length_of_run<P: Measured + Fixed>(
     rt: &impl Abort,
     alloc: Global,
     text: &str,
@@ -76,13 +74,15 @@ fn length_of_run<P: Measured>(
 ) -> Lengths {
     let mut net = net_of::<P>(rt, alloc, text);
     play_all(rt, alloc, &mut net, events);
-    let lengths = lengths_of::<P>(alloc, net.graph(), net.trace()).expect(rt, "memory");
+    let lengths = lengths_of::<P>(alloc, net.setting(), net.graph(), net.trace()).expect(
+        rt, "memory",
+    );
     let_go(net);
     lengths
 }
 
 /// That run has these lengths.
-pub fn assert_lengths<P: Measured>(
+pub fn assert_lengths<P: Measured + Fixed>(
     rt: &impl Abort,
     alloc: Global,
     text: &str,

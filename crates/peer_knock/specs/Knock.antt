@@ -1,5 +1,5 @@
 -- The rules of knocking.
-use Rattle.std.specs.Prelude.{ℕ, zero, suc, Bool, true, false, not, Option, None, Some, List, [], ◌∷◌, ◌++◌, length, if◌then◌else◌}
+use Rattle.std.specs.Prelude.{ℕ, zero, suc, Bool, true, false, not, ◌&&◌, Option, None, Some, List, [], ◌∷◌, ◌++◌, length, if◌then◌else◌}
 use Rattle.ghs_graph.specs.declared.port.Port.{Port}
 use Rattle.peer_machine.specs.declared.work.Work.{Work}
 use Rattle.peer_machine.specs.declared.work.Work.TheVariants.{Wake, Deliver}
@@ -22,21 +22,22 @@ abbrev pub reaction : Node → Work Message → Option (Outcome Node Message)
 reaction n Wake = if n.awake then None else Some (record { state = record n { awake = true }; sends = knocks n.ports })
 reaction n (Deliver p m) = Some (record { state = n; sends = [] })
 
--- a sleeping node defers a knock
-abbrev pub defers : Node → Work Message → Bool
-defers n Wake = false
-defers n (Deliver p m) = not n.awake
+-- a sleeping node defers a knock where sleepers are patient
+abbrev pub defers : Bool → Node → Work Message → Bool
+defers patient n Wake = false
+defers patient n (Deliver p m) = patient && not n.awake
 
 abbrev pub asleep : List Port → Node
 asleep ports = record { ports = length ports; awake = false }
 
-abbrev pub knocking : Rules Node Message
-knocking = record {
+-- the rules, by what is known only when a run begins: whether sleepers are patient
+abbrev pub knocking : Bool → Rules Node Message
+knocking patient = record {
   opening = λ v ports. asleep ports;
   is_asleep = λ n. not n.awake;
   has_halted = λ n. n.awake;
   reaction = reaction;
-  defers = defers;
+  defers = defers patient;
   kinds = 1;
   kind_of = λ m. 0;
   bits = λ g m. 1;

@@ -8,12 +8,28 @@ use ghs_graph::port::Port;
 use peer_machine::protocol::Protocol;
 use peer_machine::work::{Answer, Work};
 use std::alloc::{AllocError, Global};
+use std::marker::{Brand, PhantomData};
 
-/// A node that wakes knocks at all its neighbors; a sleeping node defers knocks.
-#[derive(Clone, Copy, Debug)]
-pub struct Knocking {}
+/// By which rules a run goes: whether sleepers are patient. Only the running program knows.
+pub trait Chosen {
+    ghost use Rattle.std.specs.Prelude.{Bool};
 
-impl Protocol for Knocking {
+    ghost patient: { Bool };
+}
+
+/// A call that names `Brand` picks. By itself it stands for patient sleepers.
+impl Chosen for Brand {
+    ghost use Rattle.std.specs.Prelude.{true};
+
+    ghost patient = { true };
+}
+
+/// A node that wakes knocks at all its neighbors; a sleeping node that is patient defers knocks, and one that isn't hears them.
+pub struct Knocking<J: Chosen> {
+    of: PhantomData<J>,
+}
+
+impl<J: Chosen> Protocol for Knocking<J> {
     ghost use Rattle.std.specs.Prelude.{◌≡◌, ℕ, ◌*◌, length, Some, IsSome, IfOk};
     ghost use Rattle.peer_knock.specs.Knock.{knocking, after_knock};
     ghost use Rattle.peer_knock.specs.Proved.{knock_kinds, knock_rules, knock_bound, knock_fits};
@@ -24,13 +40,18 @@ impl Protocol for Knocking {
 
     type Change = Change;
 
-    ghost rules = { knocking };
+    /// Whether sleepers are patient.
+    type Setting = bool;
+
+    ghost goes_by = { λ patient. patient ≡ J.patient };
+
+    ghost rules = { knocking J.patient };
 
     ghost after = { after_knock };
 
     ghost bound = { λ g. 2 * length g.keys };
 
-    fn open(_alloc: Global, _v: u32, ports: &[Port]) -> Result<Node, AllocError> {
+    fn open(_alloc: Global, _patient: bool, _v: u32, ports: &[Port]) -> Result<Node, AllocError> {
         Ok(Node {
             ports: ports.len() as u32,
             awake: false,
@@ -43,11 +64,13 @@ impl Protocol for Knocking {
 
     fn react(
         alloc: Global,
+        _patient: bool,
         node: &Node,
         work: Work<Message>,
     ) -> Result<Answer<Change, Message>, AllocError>
-        requires rule { IsSome (knocking.reaction node.now work) }
-        ensures { IfOk result (λ a. knocking.reaction node.now work ≡ Some (record { state = after_knock node.now a.change; sends = a.sends.items })) }
+        requires setting { _patient ≡ J.patient }
+        requires rule { IsSome ((knocking J.patient).reaction node.now work) }
+        ensures { IfOk result (λ a. (knocking J.patient).reaction node.now work ≡ Some (record { state = after_knock node.now a.change; sends = a.sends.items })) }
     {
         let mut sends = Vec::new(alloc);
         match work {
@@ -65,12 +88,13 @@ impl Protocol for Knocking {
         }
     }
 
-    fn defers(node: &Node, work: Work<Message>) -> bool
-        ensures { result ≡ knocking.defers node.now work }
+    fn defers(patient: bool, node: &Node, work: Work<Message>) -> bool
+        requires { patient ≡ J.patient }
+        ensures { result ≡ (knocking J.patient).defers node.now work }
     {
         match work {
             Work::Wake => false,
-            Work::Deliver { .. } => !node.awake,
+            Work::Deliver { .. } => patient && !node.awake,
         }
     }
 
@@ -78,27 +102,27 @@ impl Protocol for Knocking {
         node.awake = change.awake;
     }
 
-    fn kinds() -> usize {
+    fn kinds(_patient: bool) -> usize {
         1
     }
 
-    fn kind(message: Message) -> usize {
+    fn kind(_patient: bool, message: Message) -> usize {
         match message {
             Message::Knock => 0,
         }
     }
 
-    fn bound_of(graph: &Graph) -> u64 {
+    fn bound_of(_patient: bool, graph: &Graph) -> u64 {
         // Called for its clause: a graph has few links.
         let _ = graph.nodes();
         2 * graph.links()
     }
 
-    ghost has_kinds = { knock_kinds };
+    ghost has_kinds = { knock_kinds J.patient };
 
-    ghost has_rules = { knock_rules };
+    ghost has_rules = { knock_rules J.patient };
 
-    ghost is_bounded = { knock_bound };
+    ghost is_bounded = { knock_bound J.patient };
 
     ghost bound_fits = { knock_fits };
 }

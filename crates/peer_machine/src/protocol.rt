@@ -25,6 +25,13 @@ pub trait Protocol {
     /// How a node changes in one reaction.
     type Change: Drop;
 
+    /// What the rules depend on and only a running program knows, as a reference to a user's book: `()` where they depend on
+    /// nothing.
+    type Setting: Copy;
+
+    /// The rules are those of this setting.
+    ghost goes_by: { Self.Setting → Type 0 };
+
     /// The rules that the functions below follow.
     ghost rules: { Rules Self.Node Self.Message };
 
@@ -35,7 +42,13 @@ pub trait Protocol {
     ghost bound: { Shape → ℕ };
 
     /// A node at the opening of a run, by its number, from 1, and its ports in key order.
-    fn open(alloc: Global, v: u32, ports: &[Port]) -> Result<Self::Node, AllocError>
+    fn open(
+        alloc: Global,
+        setting: Self::Setting,
+        v: u32,
+        ports: &[Port],
+    ) -> Result<Self::Node, AllocError>
+        requires setting { goes_by setting }
         requires few { length ports.now < 2 ^ 24 }
         ensures { IfOk result (λ n. n ≡ rules.opening v ports.now) };
 
@@ -46,15 +59,18 @@ pub trait Protocol {
     /// What a node does when it gets some work. A refused allocation leaves all as it was.
     fn react(
         alloc: Global,
+        setting: Self::Setting,
         node: &Self::Node,
         work: Work<Self::Message>,
     ) -> Result<Answer<Self::Change, Self::Message>, AllocError>
+        requires setting { goes_by setting }
         requires rule { IsSome (rules.reaction node.now work) }
         ensures { IfOk result (λ a. rules.reaction node.now work ≡ Some (record { state = after node.now a.change; sends = a.sends.items })) };
 
     /// Whether a node defers the message that the work brings: then it goes to the end of its queue. A protocol that never
     /// does answers `false`.
-    fn defers(node: &Self::Node, work: Work<Self::Message>) -> bool
+    fn defers(setting: Self::Setting, node: &Self::Node, work: Work<Self::Message>) -> bool
+        requires { goes_by setting }
         ensures { result ≡ rules.defers node.now work };
 
     /// The node changes. Takes no memory.
@@ -62,15 +78,18 @@ pub trait Protocol {
         ensures { node.new ≡ after node.old change.now };
 
     /// How many kinds of messages there are.
-    fn kinds() -> usize
+    fn kinds(setting: Self::Setting) -> usize
+        requires { goes_by setting }
         ensures { result ≡ rules.kinds };
 
     /// The kind of a message, from 0 on.
-    fn kind(message: Self::Message) -> usize
+    fn kind(setting: Self::Setting, message: Self::Message) -> usize
+        requires { goes_by setting }
         ensures { result ≡ rules.kind_of message };
 
     /// How many messages a run of the graph sends at most. O(1).
-    fn bound_of(graph: &Graph) -> u64
+    fn bound_of(setting: Self::Setting, graph: &Graph) -> u64
+        requires { goes_by setting }
         ensures { result ≡ bound graph.now };
 
     /// Each message is of one of the kinds.
