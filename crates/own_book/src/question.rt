@@ -28,7 +28,10 @@ pub enum Asked {
 #[derive(Clone, Copy, Drop)]
 pub enum Query<'a> {
     /// What it does in this state when it wakes by itself.
-    Wake { node: u32, state: &'a [u8] },
+    Wake {
+        node: u32,
+        state: &'a [u8],
+    },
     /// What it does in this state with this message, which came in at this port.
     Take {
         node: u32,
