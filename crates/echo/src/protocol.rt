@@ -5,6 +5,7 @@ ghost use Rattle.echo.specs.Echo.{echo, after, explores, echoes, joined, answere
 use crate::node::{Change, Head, Message, Node};
 use ghs_graph::graph::Graph;
 use ghs_graph::port::Port;
+use peer_machine::fixed::Fixed;
 use peer_machine::protocol::Protocol;
 use peer_machine::work::{Answer, Work};
 use std::alloc::{AllocError, Global};
@@ -117,6 +118,11 @@ impl Protocol for Echo {
     ghost is_bounded = { echo_bound };
 
     ghost bound_fits = { echo_fits };
+}
+
+/// The wave's rules depend on nothing.
+impl Fixed for Echo {
+    fn setting() {}
 }
 
 /// A node takes part in the wave: it wakes, asks on, and answers at once where it has nobody to ask.

@@ -28,24 +28,26 @@ pub struct Lengths {
 /// message that it sends. Refusal: out of memory.
 ///
 /// ```text
-/// let lengths = lengths_of::<Boruvka>(alloc, net.graph(), net.trace())?;
+/// let lengths = lengths_of::<Boruvka>(alloc, (), net.graph(), net.trace())?;
 /// // once a run of the path 1-2-3 that node 1 began has ended: a chain of 8 messages, and with weights 5 and 7 53 bits
 /// ```
 pub fn lengths_of<P: Measured>(
     alloc: Global,
+    setting: P::Setting,
     graph: &Graph,
     events: &[Event],
 ) -> Result<Lengths, AllocError>
+    requires setting { P.goes_by setting }
     requires run { IsRun P.rules (network_of graph.now) events.now }
     ensures chain { IfOk result (λ l. l.chain ≡ longest_chain P.rules (network_of graph.now) events.now) }
     ensures bits { IfOk result (λ l. l.bits ≡ bits_sent P.rules graph.now events.now) }
     ensures longest { IfOk result (λ l. l.longest ≡ longest_sent P.rules graph.now events.now) }
 {
-    let mut net = match Net::<P>::open(alloc, graph.copy(alloc)?) {
+    let mut net = match Net::<P>::open(alloc, setting, graph.copy(alloc)?) {
         Ok(net) => net,
         Err((_, error)) => return Err(error),
     };
-    let mut meter = Meter::<P>::none(alloc, graph)?;
+    let mut meter = Meter::<P>::none(alloc, setting, graph)?;
     for event in events {
         let _ = net.trace();
         let seen = meter.look(&net, *event)?;

@@ -40,7 +40,8 @@ impl<P: Measured> Model for Meter<P> {
 
 impl<P: Measured> Meter<P> {
     /// That of a run that has no event yet. O(N + E). Refusal: out of memory.
-    pub fn none(alloc: Global, graph: &Graph) -> Result<Meter<P>, AllocError>
+    pub fn none(alloc: Global, setting: P::Setting, graph: &Graph) -> Result<Meter<P>, AllocError>
+        requires { P.goes_by setting }
         ensures meter { IfOk result (λ m. IsMeterOf P.rules P.is_of graph.now [] m) }
         ensures kept { IfOk result (λ m. m.lost ≡ false) }
     {
@@ -48,7 +49,7 @@ impl<P: Measured> Meter<P> {
             chains: Chains::none(alloc, graph)?,
             lost: false,
             sent: Sent::none(),
-            scale: P::scale_of(graph),
+            scale: P::scale_of(setting, graph),
         })
     }
 

@@ -20,7 +20,7 @@ use std::alloc::{AllocError, Global};
 /// was left; the world stands after the events so far, and the event that was refused comes next again.
 ///
 /// ```text
-/// let mut world = World::<Echo>::open(alloc, graph, WakeSet::All)?;
+/// let mut world = World::<Echo>::open(alloc, (), graph, WakeSet::All)?;
 /// run_lifo(alloc, &mut world, &mut Schedule::seeded(7), 1 << 40)?;
 /// // world.net().trace() are the events of seed 7's run that takes first what was sent last
 /// ```

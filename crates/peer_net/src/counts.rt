@@ -27,24 +27,30 @@ impl Counts {
 }
 
 /// Counts messages that are sent.
-pub fn count_sends<P: Protocol>(counts: &mut Counts, sends: &[(u32, P::Message)])
+pub fn count_sends<P: Protocol>(
+    setting: P::Setting,
+    counts: &mut Counts,
+    sends: &[(u32, P::Message)],
+)
+    requires setting { P.goes_by setting }
     requires kinds { length counts.old.sent.items ≡ P.rules.kinds }
     requires fits { (k : ℕ) → k < P.rules.kinds → slice_index counts.old.sent.items k + length sends.now < 2 ^ 64 }
     ensures { CountsSends P.rules sends.now counts.old counts.new }
 {
     for i in 0..sends.len() {
         let (_, message) = sends[i];
-        counts.sent[P::kind(message)] += 1;
+        counts.sent[P::kind(setting, message)] += 1;
     }
 }
 
 /// Counts a message that is consumed.
-pub fn count_take<P: Protocol>(counts: &mut Counts, message: P::Message)
+pub fn count_take<P: Protocol>(setting: P::Setting, counts: &mut Counts, message: P::Message)
+    requires setting { P.goes_by setting }
     requires kinds { length counts.old.consumed.items ≡ P.rules.kinds }
     requires fits { (k : ℕ) → k < P.rules.kinds → slice_index counts.old.consumed.items k + 1 < 2 ^ 64 }
     ensures { CountsTake P.rules false message counts.old counts.new }
 {
-    counts.consumed[P::kind(message)] += 1;
+    counts.consumed[P::kind(setting, message)] += 1;
 }
 
 /// Counts a message that is deferred.

@@ -22,9 +22,11 @@ use peer_network::event::node_of;
 use std::alloc::{AllocError, Global};
 use std::marker::Model;
 
-/// All nodes and all queues of a graph's network under a protocol, and the list of the events that were played on it.
+/// All nodes and all queues of a graph's network under a protocol, the setting that its rules are made of, and the list of the
+/// events that were played on it.
 #[derive(Drop)]
 pub struct Net<P: Protocol> {
+    setting: P::Setting,
     graph: Graph,
     nodes: Vec<P::Node>,
     channels: Channels<P::Message>,
@@ -40,26 +42,32 @@ impl<P: Protocol> Model for Net<P> {
 
     ghost view = { λ n. record { graph = n.graph; trace = n.trace.items } };
 
-    ghost invariant = { λ n. IsKept P.rules n.graph n.trace.items n.nodes.items n.channels n.counts };
+    ghost invariant = { λ n. P.goes_by n.setting × IsKept P.rules n.graph n.trace.items n.nodes.items n.channels n.counts };
 }
 
 impl<P: Protocol> Net<P> {
-    /// The opening net of a graph: nothing under way. Where memory runs out the graph comes back.
+    /// The opening net of a graph: nothing under way. It keeps the setting. Where memory runs out the graph comes back.
     ///
     /// ```text
-    /// let mut net = Net::<Echo>::open(alloc, graph)?;           // an Err hands the graph back
+    /// let mut net = Net::<Echo>::open(alloc, (), graph)?;       // an Err hands the graph back
     /// let event = Event::Wake(1);                               // lawful: net.lawful(event)
     /// let sends = net.play(alloc, event)?;
     /// // net.trace() is [Event::Wake(1)], node 1 is awake, and sends are what it has sent, each with its port
     /// ```
-    pub fn open(alloc: Global, graph: Graph) -> Result<Net<P>, (Graph, AllocError)>
+    pub fn open(
+        alloc: Global,
+        setting: P::Setting,
+        graph: Graph,
+    ) -> Result<Net<P>, (Graph, AllocError)>
+        requires setting { P.goes_by setting }
         ensures graph { IfOk result (λ n. n.graph ≡ graph) }
         ensures trace { IfOk result (λ n. n.trace ≡ []) }
         ensures net { IfOk result (λ n. net_of P.rules n ≡ opening P.rules (network_of graph)) }
         ensures back { IfErr result (λ e. e.0 ≡ graph) }
     {
-        match open_parts::<P>(alloc, &graph) {
+        match open_parts::<P>(alloc, setting, &graph) {
             Ok(parts) => Ok(Net {
+                setting,
                 graph,
                 nodes: parts.nodes,
                 channels: parts.channels,
@@ -68,6 +76,13 @@ impl<P: Protocol> Net<P> {
             }),
             Err(error) => Err((graph, error)),
         }
+    }
+
+    /// The setting that the rules are made of.
+    pub fn setting(&self) -> P::Setting
+        ensures { P.goes_by result }
+    {
+        self.setting
     }
 
     /// Whether an event may happen now.
@@ -163,7 +178,11 @@ impl<P: Protocol> Net<P> {
     {
         match event {
             Event::Wake(_) => false,
-            Event::Take(v, _) => P::defers(self.node(v), self.work_placed(self.placed(event))),
+            Event::Take(v, _) => P::defers(
+                self.setting,
+                self.node(v),
+                self.work_placed(self.placed(event)),
+            ),
         }
     }
 
@@ -206,12 +225,19 @@ impl<P: Protocol> Net<P> {
         let start = self.channels.start_of(placed);
         let work = self.work_placed(placed);
         let node = &self.nodes[at];
-        let later = P::defers(node, work);
-        let answer = P::react(alloc, node, work)?;
+        let later = P::defers(self.setting, node, work);
+        let answer = P::react(alloc, self.setting, node, work)?;
         self.trace.reserve(1)?;
         self.channels.reserve_from(start, v, &answer.sends)?;
-        count_sends::<P>(&mut self.counts, &answer.sends);
-        take_in::<P>(&mut self.channels, &mut self.counts, start, event, later);
+        count_sends::<P>(self.setting, &mut self.counts, &answer.sends);
+        take_in::<P>(
+            self.setting,
+            &mut self.channels,
+            &mut self.counts,
+            start,
+            event,
+            later,
+        );
         P::apply(&mut self.nodes[at], &answer.change);
         send_all(&mut self.channels, start, v, &answer.sends);
         self.trace.push_reserved(event);

@@ -31,12 +31,14 @@ pub fn send_all<M: Copy>(channels: &mut Channels<M>, start: u32, v: u32, sends: 
 /// Takes the message that an event takes: out of its queue, or, if it is deferred, to the end of it. The queues of the event's
 /// node begin at `start`. Counts the message, and takes no memory.
 pub fn take_in<P: Protocol>(
+    setting: P::Setting,
     channels: &mut Channels<P::Message>,
     counts: &mut Counts,
     start: u32,
     event: Event,
     later: bool,
 )
+    requires setting { P.goes_by setting }
     requires start { start ≡ first_queue channels.old (event_node event) }
     requires waits { WaitsAt event channels.old }
     requires kinds { length counts.old.consumed.items ≡ P.rules.kinds }
@@ -49,7 +51,7 @@ pub fn take_in<P: Protocol>(
             channels.requeue_from(start, v, port);
             count_deferred(counts);
         } else if let Some(message) = channels.take_front_from(start, v, port) {
-            count_take::<P>(counts, message);
+            count_take::<P>(setting, counts, message);
         }
     }
 }

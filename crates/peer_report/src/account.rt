@@ -40,7 +40,7 @@ pub(crate) fn put_account<P: Spoken>(text: &mut Vec<u8>, net: &Net<P>) -> Result
     ensures account { IfOk result (λ _. text.new.items ≡ text.old.items ++ account_lines P.rules P.words.kind P.bound net.now.graph (net_of P.rules net.now)) }
     ensures within { IfOk result (λ _. in_all P.rules (net_of P.rules net.now).sent ≤ P.bound net.now.graph) }
 {
-    let most = P::bound_of(net.graph());
+    let most = P::bound_of(net.setting(), net.graph());
     let sent = net.ledger().sent;
     put_kinds::<P>(text, sent)?;
     put_sends(text, in_total(sent), most)?;

@@ -54,7 +54,7 @@ pub fn run_followed_by_seed<P: Ends, F: Follower<P>>(
     ensures run { IfOk result (λ ran. IsRan P.rules P.has_ended seed wake turns graph ran.0 ran.1) }
     ensures kept { IfOk result (λ ran. F.is_of ran.0.net.graph ran.0.net.trace kept.new) }
 {
-    let Ok(mut world) = World::<P>::open(alloc, graph, wake) else {
+    let Ok(mut world) = World::<P>::open(alloc, P::setting(), graph, wake) else {
         return Err(AllocError);
     };
     let end = run_followed(alloc, &mut world, &mut Schedule::seeded(seed), turns, kept);

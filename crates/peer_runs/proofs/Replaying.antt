@@ -1,6 +1,6 @@
 -- Runs done again: the first event that isn't lawful, and that a run has none.
 use Rattle.std.proofs.Common.{◌≡◌, ◌+◌, ◌-◌, ◌<◌, ◌∙◌, ℕ, suc, true, false, List, [], ◌∷◌, ◌++◌, length, take, drop, get_or, Some, sym, ap, subst, arith, length-take-le}
-use Rattle.std.specs.Result.{is_err, OnErr}
+use Rattle.std.specs.Result.{is_err, OnErr, OnOk}
 use Rattle.std.specs.Prelude.{Result, Ok, Err}
 use Rattle.std.proofs.Math.Seq.{split_at}
 use Rattle.std.proofs.lemmas.Bool.{false≢true}
@@ -76,6 +76,11 @@ module _ {S M : Type 0} (r : Rules S M) (g : Shape) (wake : WakeSet) (es : List 
       false≢true (sym first.unlawful
       ∙ subst (λ e. is_lawful_under r (may_wake g wake) (network_of g) (net_after r g (take (k - 1) es)) e ≡ true) at
       (lawful_at (k - 1) first.event is_run lt))
+
+-- what holds if there is none, where there is none
+pub on_ok : {A E P : Type 0} (r : Result A E) → is_err r ≡ false → OnOk r P → P
+on_ok (Ok x) h p = p
+on_ok (Err e) h p = cc
 
 -- what holds if there is an error, where there is one
 pub on_err : {A E P : Type 0} (r : Result A E) → is_err r ≡ true → OnErr r P → P

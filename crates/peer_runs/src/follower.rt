@@ -14,7 +14,7 @@ use std::alloc::AllocError;
 /// has happened. Memory that it is refused there it reports at its next look, which stops the run.
 ///
 /// ```text
-/// let mut meter = Meter::<Boruvka>::none(alloc, world.net().graph())?;
+/// let mut meter = Meter::<Boruvka>::none(alloc, (), world.net().graph())?;
 /// run_followed(alloc, &mut world, &mut Schedule::seeded(7), 1 << 40, &mut meter)?;
 /// // meter.lengths() are those of the run that world.net().trace() is
 /// ```

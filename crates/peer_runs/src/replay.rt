@@ -19,21 +19,23 @@ use std::alloc::Global;
 ///
 /// ```text
 /// let events = read_trace_of(alloc, Protocol::Echo, &text)?;
-/// let world = replay::<Echo>(alloc, graph, WakeSet::All, &events)?;
+/// let world = replay::<Echo>(alloc, (), graph, WakeSet::All, &events)?;
 /// // world.net().trace() is these events; an Err hands the graph back, and names the first that isn't lawful
 /// ```
 pub fn replay<P: Protocol>(
     alloc: Global,
+    setting: P::Setting,
     graph: Graph,
     wake: WakeSet,
     events: &[Event],
 ) -> Result<World<P>, (Graph, ReplayFault)>
+    requires setting { P.goes_by setting }
     ensures ok { IfOk result (HasReplayed graph wake events.now) }
     ensures fault { IfErr result (λ e. CantReplay P.rules graph wake events.now e.1) }
     ensures run { IsRunUnder P.rules (may_wake graph wake) (network_of graph) events.now → IfErr result (λ e. e.1 ≡ Memory) }
     ensures back { IfErr result (λ e. e.0 ≡ graph) }
 {
-    let mut world = match World::<P>::open(alloc, graph, wake) {
+    let mut world = match World::<P>::open(alloc, setting, graph, wake) {
         Ok(world) => world,
         Err((graph, _)) => return Err((graph, ReplayFault::Memory)),
     };

@@ -16,7 +16,7 @@ use std::alloc::{AllocError, Global};
 /// again.
 ///
 /// ```text
-/// let mut world = World::<Echo>::open(alloc, graph, WakeSet::All)?;
+/// let mut world = World::<Echo>::open(alloc, (), graph, WakeSet::All)?;
 /// run_seeded(alloc, &mut world, &mut Schedule::seeded(7), 1 << 40)?;
 /// // world.net().trace() are the events of the run of seed 7, and none is ready any more
 /// ```

@@ -20,8 +20,8 @@ use std::marker::Model;
 /// A net under a protocol, in which some nodes alone wake by themselves, and whose events that may happen are at hand.
 ///
 /// ```text
-/// let mut world = World::<Echo>::open(alloc, graph, WakeSet::All)?;   // an Err hands the graph back
-/// if world.is_ready(Event::Wake(1)) {                                 // so it is: a sleeper may wake
+/// let mut world = World::<Echo>::open(alloc, (), graph, WakeSet::All)?;   // an Err hands the graph back
+/// if world.is_ready(Event::Wake(1)) {                                     // so it is: a sleeper may wake
 ///     world.play(alloc, Event::Wake(1))?;
 /// }
 /// // world.net().trace() is [Event::Wake(1)]; ready_at(0) is the first of the ready_count() events that may happen now
@@ -46,13 +46,19 @@ impl<P: Protocol> Model for World<P> {
 
 impl<P: Protocol> World<P> {
     /// The opening world of a graph: nothing under way. Where memory runs out the graph comes back. O(N + E).
-    pub fn open(alloc: Global, graph: Graph, wake: WakeSet) -> Result<World<P>, (Graph, AllocError)>
+    pub fn open(
+        alloc: Global,
+        setting: P::Setting,
+        graph: Graph,
+        wake: WakeSet,
+    ) -> Result<World<P>, (Graph, AllocError)>
+        requires setting { P.goes_by setting }
         ensures graph { IfOk result (λ w. w.net.graph ≡ graph) }
         ensures trace { IfOk result (λ w. w.net.trace ≡ []) }
         ensures wake { IfOk result (λ w. w.wake ≡ wake) }
         ensures back { IfErr result (λ e. e.0 ≡ graph) }
     {
-        let net = Net::<P>::open(alloc, graph)?;
+        let net = Net::<P>::open(alloc, setting, graph)?;
         match open_index(alloc, &net, wake) {
             Ok(index) => Ok(World { net, wake, index }),
             Err(error) => Err((net.into_graph(), error)),

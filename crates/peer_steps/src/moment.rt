@@ -34,7 +34,7 @@ pub struct Moment {
 /// The moment of an event that is lawful now.
 ///
 /// ```text
-/// let net = Net::<Boruvka>::open(alloc, graph)?;
+/// let net = Net::<Boruvka>::open(alloc, (), graph)?;
 /// let moment = moment_at(&net, Event::Wake(1));
 /// // its number is 1, it takes no message, and its row is Wakes
 /// ```

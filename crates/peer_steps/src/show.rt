@@ -27,11 +27,12 @@ use std::alloc::Global;
 ///
 /// ```text
 /// let all = Choice { from: 1, to: u64::MAX, node: None };
-/// write_steps::<Boruvka, _>(alloc, graph, WakeSet::All, &events, &all, Form::Text, &mut out)?;
+/// write_steps::<Boruvka, _>(alloc, (), graph, WakeSet::All, &events, &all, Form::Text, &mut out)?;
 /// // the run of two nodes begins with `1 2 - - wake Wakes - phase=rest;out=0 0>1:connect(0) 1`
 /// ```
 pub fn write_steps<P: Spoken, W: Sink>(
     alloc: Global,
+    setting: P::Setting,
     graph: Graph,
     wake: WakeSet,
     events: &[Event],
@@ -39,6 +40,7 @@ pub fn write_steps<P: Spoken, W: Sink>(
     form: Form,
     writer: &mut W,
 ) -> Result<(), StepsFault>
+    requires setting { P.goes_by setting }
     requires sound { W.has_failed writer.old ≡ false }
     ensures run { OnOk result (IsRunUnder P.rules (may_wake graph wake) (network_of graph) events.now) }
     ensures ok { OnOk result (Appends (W.held writer.old) (W.held writer.new) (lines P.rules P.words form graph choice.now events.now)) }
@@ -46,14 +48,22 @@ pub fn write_steps<P: Spoken, W: Sink>(
     ensures unlawful { IfErr result (λ fault. is_unlawful fault ≡ true → writer.new ≡ writer.old) }
     ensures failed { MatchResult result (λ _. W.has_failed writer.new ≡ false) (λ fault. W.has_failed writer.new ≡ is_write fault) }
 {
-    let world = match replay::<P>(alloc, graph, wake, events) {
+    let world = match replay::<P>(alloc, setting, graph, wake, events) {
         Ok(world) => world,
         Err((_, ReplayFault::NotLawful(event))) => return Err(StepsFault::NotLawful(event)),
         Err((_, _)) => return Err(StepsFault::Memory),
     };
     // Read for its clause: the events are a run.
     let _ = world.net();
-    match write_run::<P, W>(alloc, world.into_graph(), events, choice, form, writer) {
+    match write_run::<P, W>(
+        alloc,
+        setting,
+        world.into_graph(),
+        events,
+        choice,
+        form,
+        writer,
+    ) {
         Ok(()) => Ok(()),
         Err(WriteFault::Memory) => Err(StepsFault::Memory),
         Err(WriteFault::Write { written }) => Err(StepsFault::Write { written }),

@@ -40,19 +40,21 @@ struct Effects {
 /// so the memory that it takes doesn't grow with the text. At a fault what is out is a front of the text.
 pub fn write_run<P: Spoken, W: Sink>(
     alloc: Global,
+    setting: P::Setting,
     graph: Graph,
     events: &[Event],
     choice: &Choice,
     form: Form,
     writer: &mut W,
 ) -> Result<(), WriteFault>
+    requires setting { P.goes_by setting }
     requires run { IsRun P.rules (network_of graph) events.now }
     requires sound { W.has_failed writer.old ≡ false }
     ensures ok { OnOk result (Appends (W.held writer.old) (W.held writer.new) (lines P.rules P.words form graph choice.now events.now)) }
     ensures err { IfErr result (λ fault. IsFront (W.held writer.old) (W.held writer.new) (lines P.rules P.words form graph choice.now events.now) fault) }
     ensures failed { MatchResult result (λ _. W.has_failed writer.new ≡ false) (λ fault. W.has_failed writer.new ≡ is_write fault) }
 {
-    let mut net = match Net::<P>::open(alloc, graph) {
+    let mut net = match Net::<P>::open(alloc, setting, graph) {
         Ok(net) => net,
         Err(_) => return Err(WriteFault::Memory),
     };
@@ -78,17 +80,19 @@ pub fn write_run<P: Spoken, W: Sink>(
 /// net that it leaves. Refusal: out of memory.
 pub fn put_lines<P: Spoken>(
     alloc: Global,
+    setting: P::Setting,
     graph: Graph,
     events: &[Event],
     form: Form,
     text: &mut Vec<u8>,
 ) -> Result<Net<P>, AllocError>
+    requires setting { P.goes_by setting }
     requires run { IsRun P.rules (network_of graph) events.now }
     ensures graph { IfOk result (λ net. net.graph ≡ graph) }
     ensures trace { IfOk result (λ net. net.trace ≡ events.now) }
     ensures text { OnOk result (text.new.items ≡ text.old.items ++ all_lines P.rules P.words form graph events.now) }
 {
-    let mut net = match Net::<P>::open(alloc, graph) {
+    let mut net = match Net::<P>::open(alloc, setting, graph) {
         Ok(net) => net,
         Err((_, error)) => return Err(error),
     };
@@ -169,7 +173,7 @@ fn make<P: Spoken>(alloc: Global, net: &mut Net<P>, event: Event) -> Result<Effe
     let v = node_of(event);
     // Read for its clauses: the net is that of a run, so there is a rule.
     let _ = net.trace();
-    let answer = P::react(alloc, net.node(v), work_of::<P>(net, event))?;
+    let answer = P::react(alloc, net.setting(), net.node(v), work_of::<P>(net, event))?;
     let sends = sent_by::<P>(alloc, net.graph(), v, answer.sends.as_slice())?;
     let ports = degree(net.graph(), v);
     let before = note_before::<P>(alloc, net.node(v), &answer.change, ports)?;

@@ -42,7 +42,7 @@ impl<P: FindsTree + Spoken + Measured> Swept for ByRules<P> {
     }
 
     fn kinds() -> usize {
-        P::kinds()
+        P::kinds(P::setting())
     }
 
     fn kind_name(kind: usize) -> Word {
@@ -86,7 +86,7 @@ fn seeded<P: FindsTree + Spoken + Measured>(
     ensures { IfOk result (λ f. AreFiguresOf P.rules P.bound P.is_branch P.has_ended graph.now setup seed f) }
 {
     let copy = graph.copy(alloc)?;
-    let mut meter = Meter::<P>::none(alloc, graph)?;
+    let mut meter = Meter::<P>::none(alloc, P::setting(), graph)?;
     let (world, _) = run_followed_by_seed::<P, Meter<P>>(
         alloc,
         copy,
@@ -115,7 +115,7 @@ pub fn figures_of<P: FindsTree + Measured>(
     law_bits::<P::Node, P::Message>();
     let graph = net.graph();
     let tree = branches(alloc, net)?;
-    let most = P::bound_of(graph);
+    let most = P::bound_of(net.setting(), graph);
     let ledger = net.ledger();
     let total = in_total(ledger.sent) as u64;
     Ok(Figures {

@@ -22,26 +22,28 @@ use std::alloc::{AllocError, Global};
 /// `events` is how many the whole run has, `from` the event before which it opens, counted from 1. Refusal: out of memory.
 ///
 /// ```text
-/// let data = data_of::<Boruvka>(alloc, graph, &events, events.len() as u64, 1)?;
+/// let data = data_of::<Boruvka>(alloc, (), graph, &events, events.len() as u64, 1)?;
 /// // of a run of two nodes and a link of weight 5, the first of its lines:
 /// // {"ghs":"steps","version":1,"nodes":2,"links":1,"bound":10,"events":5,"from":1,"to":5}
 /// ```
 pub fn data_of<P: Viewed>(
     alloc: Global,
+    setting: P::Setting,
     graph: Graph,
     shown: &[Event],
     events: u64,
     from: u64,
 ) -> Result<Vec<u8>, AllocError>
-    requires { IsRun P.rules (network_of graph) shown.now }
+    requires setting { P.goes_by setting }
+    requires run { IsRun P.rules (network_of graph) shown.now }
     ensures { IfOk result (λ text. text.items ≡ data_json P.rules P.words P.looks P.bound graph events from shown.now) }
 {
-    let most = P::bound_of(&graph);
+    let most = P::bound_of(setting, &graph);
     let mut text = Vec::new(alloc);
     put_head(&mut text, &graph, most, events, from, shown.len() as u64)?;
-    put_protocol::<P>(&mut text)?;
+    put_protocol::<P>(&mut text, setting)?;
     put_links(&mut text, graph.keys())?;
-    let net = put_lines::<P>(alloc, graph, shown, Form::Json, &mut text)?;
+    let net = put_lines::<P>(alloc, setting, graph, shown, Form::Json, &mut text)?;
     put_ledger::<P>(&mut text, &net)?;
     Ok(text)
 }

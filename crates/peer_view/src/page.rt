@@ -20,16 +20,18 @@ use std::alloc::Global;
 ///
 /// ```text
 /// let graph = world.net().graph().copy(alloc)?;
-/// let html = run_page::<Boruvka>(alloc, graph, world.net().trace(), 1, u64::MAX)?;
+/// let html = run_page::<Boruvka>(alloc, (), graph, world.net().trace(), 1, u64::MAX)?;
 /// // the whole run, as `ghs view --protocol boruvka` prints it
 /// ```
 pub fn run_page<P: Viewed>(
     alloc: Global,
+    setting: P::Setting,
     graph: Graph,
     events: &[Event],
     from: u64,
     to: u64,
 ) -> Result<Vec<u8>, PageFault>
+    requires setting { P.goes_by setting }
     requires run { IsRun P.rules (network_of graph) events.now }
     ensures page { IfOk result (λ text. IsRunPage P.rules P.words P.looks P.bound graph events.now from to text.items) }
     ensures large { IsErrOf result TooLarge ↔ IsTooLarge graph events.now to }
@@ -38,6 +40,6 @@ pub fn run_page<P: Viewed>(
         return Err(PageFault::TooLarge);
     }
     let shown = first_events(events, to);
-    let data = data_of::<P>(alloc, graph, shown, events.len() as u64, from)?;
+    let data = data_of::<P>(alloc, setting, graph, shown, events.len() as u64, from)?;
     Ok(page(alloc, &data)?)
 }

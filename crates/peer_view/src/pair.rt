@@ -20,17 +20,19 @@ use std::alloc::Global;
 /// two would be too large; out of memory.
 ///
 /// ```text
-/// let html = pair_page::<Boruvka>(alloc, graph, &first, &second, 1, u64::MAX)?;
+/// let html = pair_page::<Boruvka>(alloc, (), graph, &first, &second, 1, u64::MAX)?;
 /// // both runs whole; Err(PageFault::TooLarge) where one of them has more than 100,000 events
 /// ```
 pub fn pair_page<P: Viewed>(
     alloc: Global,
+    setting: P::Setting,
     graph: Graph,
     first: &[Event],
     second: &[Event],
     from: u64,
     to: u64,
 ) -> Result<Vec<u8>, PageFault>
+    requires setting { P.goes_by setting }
     requires first { IsRun P.rules (network_of graph) first.now }
     requires second { IsRun P.rules (network_of graph) second.now }
     ensures page { IfOk result (λ text. IsPairPage P.rules P.words P.looks P.bound graph first.now second.now from to text.items) }
@@ -42,7 +44,7 @@ pub fn pair_page<P: Viewed>(
     let shown = first_events(first, to);
     let beside = first_events(second, to);
     let same = graph.copy(alloc)?;
-    let data = data_of::<P>(alloc, graph, shown, first.len() as u64, from)?;
-    let other = data_of::<P>(alloc, same, beside, second.len() as u64, from)?;
+    let data = data_of::<P>(alloc, setting, graph, shown, first.len() as u64, from)?;
+    let other = data_of::<P>(alloc, setting, same, beside, second.len() as u64, from)?;
     Ok(page::pair_page(alloc, &data, &other)?)
 }

@@ -10,16 +10,17 @@ use std::alloc::AllocError;
 /// Appends the line of a protocol: its name and the page's title, its kinds of messages, and what else the page is told of it.
 ///
 /// ```text
-/// put_protocol::<Boruvka>(&mut text)?;
+/// put_protocol::<Boruvka>(&mut text, ())?;
 /// // {"protocol":"boruvka","title":"ghs: Bor&#367;vka in step","kinds":[{"kind":"connect","name":"Connect", ..
 /// ```
 #[tactic(auto, unfolding(crate::specs::Protocol::protocol_line))]
-pub fn put_protocol<P: Viewed>(text: &mut Vec<u8>) -> Result<(), AllocError>
+pub fn put_protocol<P: Viewed>(text: &mut Vec<u8>, setting: P::Setting) -> Result<(), AllocError>
+    requires { P.goes_by setting }
     ensures { IfOk result (λ _. text.new.items ≡ text.old.items ++ protocol_line P.rules P.words P.looks) }
 {
     put_title(text, P::name().letters(), P::title())?;
     text.extend_from_slice(b",\"kinds\":[")?;
-    put_kinds::<P>(text)?;
+    put_kinds::<P>(text, setting)?;
     text.extend_from_slice(b"],")?;
     text.extend_from_slice(P::look())?;
     text.extend_from_slice(b"}\n")
@@ -34,10 +35,11 @@ fn put_title(text: &mut Vec<u8>, name: &[u8], title: &[u8]) -> Result<(), AllocE
 }
 
 /// The kinds of messages, with a comma between each and the next.
-fn put_kinds<P: Viewed>(text: &mut Vec<u8>) -> Result<(), AllocError>
+fn put_kinds<P: Viewed>(text: &mut Vec<u8>, setting: P::Setting) -> Result<(), AllocError>
+    requires { P.goes_by setting }
     ensures { IfOk result (λ _. text.new.items ≡ text.old.items ++ kinds_json P.rules P.words P.looks) }
 {
-    for kind in 0..P::kinds() {
+    for kind in 0..P::kinds(setting) {
         put_comma(text, kind)?;
         put_kind::<P>(text, kind)?;
     }

@@ -23,30 +23,32 @@ use std::alloc::Global;
 ///
 /// ```text
 /// let events = read_trace_of(alloc, Protocol::Boruvka, &text)?;
-/// let html = stored_page::<Boruvka>(alloc, graph, WakeSet::All, &events, 1, u64::MAX)?;
+/// let html = stored_page::<Boruvka>(alloc, (), graph, WakeSet::All, &events, 1, u64::MAX)?;
 /// // Err(StoredFault::NotLawful(2)) where the second event isn't lawful
 /// ```
 pub fn stored_page<P: Viewed>(
     alloc: Global,
+    setting: P::Setting,
     graph: Graph,
     wake: WakeSet,
     events: &[Event],
     from: u64,
     to: u64,
 ) -> Result<Vec<u8>, StoredFault>
+    requires setting { P.goes_by setting }
     ensures run { OnOk result (IsRunUnder P.rules (may_wake graph wake) (network_of graph) events.now) }
     ensures page { IfOk result (λ text. IsRunPage P.rules P.words P.looks P.bound graph events.now from to text.items) }
     ensures small { OnOk result (IsTooLarge graph events.now to → ⊥) }
     ensures fault { IfErr result (λ fault. HasNoPage P.rules graph wake events.now to fault) }
 {
-    let world = match replay::<P>(alloc, graph, wake, events) {
+    let world = match replay::<P>(alloc, setting, graph, wake, events) {
         Ok(world) => world,
         Err((_, ReplayFault::NotLawful(event))) => return Err(StoredFault::NotLawful(event)),
         Err((_, _)) => return Err(StoredFault::Memory),
     };
     // Read for its clause: the events are a run.
     let _ = world.net();
-    match run_page::<P>(alloc, world.into_graph(), events, from, to) {
+    match run_page::<P>(alloc, setting, world.into_graph(), events, from, to) {
         Ok(text) => Ok(text),
         Err(PageFault::TooLarge) => Err(StoredFault::TooLarge),
         Err(PageFault::Memory) => Err(StoredFault::Memory),

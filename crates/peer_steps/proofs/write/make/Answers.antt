@@ -18,6 +18,7 @@ pub react-requires : goal.react-requires
 react-requires g c =
     let s = c.args.net.now in
     record {
+      setting = c.setting.ensures;
       rule =
           rw (c.node.ensures, c.node_of-v.ensures, c.work_of.ensures)
           (ruled g.P.Protocol.rules g.met.P.Protocol.has_rules s c.args.event c.trace.ensures.graph c.trace.ensures.run c.requires);

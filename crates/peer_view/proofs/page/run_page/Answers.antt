@@ -6,8 +6,10 @@ use Rattle.peer_view.proofs.Front.{front_is_run}
 use Rattle.peer_view.proofs.page.run_page.Goals as goal
 
 pub data_of-requires : goal.data_of-requires
-data_of-requires g c =
-    rw c.first_events-shown.ensures (front_is_run g.P.Protocol.rules (network_of c.args.graph) c.args.events.now _ c.requires.run)
+data_of-requires g c = record {
+  setting = c.requires.setting;
+  run = rw c.first_events-shown.ensures (front_is_run g.P.Protocol.rules (network_of c.args.graph) c.args.events.now _ c.requires.run);
+}
 
 pub returns-clause-page : goal.returns-clause-page
 returns-clause-page g c =

@@ -7,13 +7,18 @@ use Rattle.peer_view.proofs.Front.{front_is_run}
 use Rattle.peer_view.proofs.pair.pair_page.Goals as goal
 
 pub data_of-requires : goal.data_of-requires
-data_of-requires g c =
-    rw c.first_events-shown.ensures (front_is_run g.P.Protocol.rules (network_of c.args.graph) c.args.first.now _ c.requires.first)
+data_of-requires g c = record {
+  setting = c.requires.setting;
+  run = rw c.first_events-shown.ensures (front_is_run g.P.Protocol.rules (network_of c.args.graph) c.args.first.now _ c.requires.first);
+}
 
 pub data_of-requires-2 : goal.data_of-requires-2
-data_of-requires-2 g c =
-    rw (c.in_ok-same.ensures, c.first_events-beside.ensures)
-    (front_is_run g.P.Protocol.rules (network_of c.args.graph) c.args.second.now _ c.requires.second)
+data_of-requires-2 g c = record {
+  setting = c.requires.setting;
+  run =
+      rw (c.in_ok-same.ensures, c.first_events-beside.ensures)
+      (front_is_run g.P.Protocol.rules (network_of c.args.graph) c.args.second.now _ c.requires.second);
+}
 
 pub returns-clause-page : goal.returns-clause-page
 returns-clause-page g c =

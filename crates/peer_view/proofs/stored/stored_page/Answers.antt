@@ -4,6 +4,7 @@ use Rattle.peer_view.proofs.stored.stored_page.Goals as goal
 
 pub run_page-requires : goal.run_page-requires
 run_page-requires g c = record {
+  setting = c.requires.setting;
   run =
       rw (c.into_graph.ensures ∙ c.in-Ok.ensures.ok.graph)
       (replayed g.P.Protocol.rules c.args.graph c.args.wake c.args.events.now _ c.in-Ok.ensures.ok c.net.ensures.run).0;

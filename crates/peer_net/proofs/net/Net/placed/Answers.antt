@@ -11,7 +11,7 @@ overflow_add-result g c =
     let node = lawful_node g.P.Protocol.rules c.self.inside.graph
     (net_after g.P.Protocol.rules c.self.inside.graph c.self.inside.trace.items) c.args.event
     lawful in
-    let few = start_few _ _ c.self.invariant.shows.queues.ports _ node.0 node.1 in
+    let few = start_few _ _ c.self.invariant.1.shows.queues.ports _ node.0 node.1 in
     let v = c.node_of-v.ensures in
     let start = rw v at c.start.ensures in
     omega (arith, few, v, start)
@@ -22,7 +22,7 @@ returns-clause-placed g c =
     let node = lawful_node g.P.Protocol.rules c.self.inside.graph
     (net_after g.P.Protocol.rules c.self.inside.graph c.self.inside.trace.items) c.args.event
     lawful in
-    let place = first_place _ _ c.self.invariant.shows.queues.ports _ node.0 node.1 in
+    let place = first_place _ _ c.self.invariant.1.shows.queues.ports _ node.0 node.1 in
     let v = c.node_of-v.ensures in
     let start = rw v at c.start.ensures in
     rw (← c.self.view_is)

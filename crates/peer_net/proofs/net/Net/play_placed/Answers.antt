@@ -14,8 +14,9 @@ react-requires g c =
     let work = rw (← c.self.view_is) at c.work_placed-work.ensures in
     let node = c.node-v.ensures in
     record {
+      setting = c.self.invariant.0;
       rule =
-          can_react c.args.placed.event p c.self.invariant lawful c.node-v.result node c.index-node.result.now c.index-node.ensures
+          can_react c.args.placed.event p c.self.invariant.1 lawful c.node-v.result node c.index-node.result.now c.index-node.ensures
           c.work_placed-work.result work;
     }
 
@@ -26,13 +27,13 @@ reserve_from-requires-clause-ports g c =
     let work = rw (← c.self.view_is) at c.work_placed-work.ensures in
     let node = c.node-v.ensures in
     let plays =
-    plays_of c.args.placed.event p c.self.invariant lawful c.node-v.result node c.index-node.result.now c.index-node.ensures
+    plays_of c.args.placed.event p c.self.invariant.1 lawful c.node-v.result node c.index-node.result.now c.index-node.ensures
     c.work_placed-work.result work _ c.in_ok-answer.ensures in
     rw (c.deref.ensures.value, node) (go_out plays)
 
 pub invariant_of-self-in_err-reserve_from : goal.invariant_of-self-in_err-reserve_from
 invariant_of-self-in_err-reserve_from g c =
-    rw c.reserve.ensures.items (reserved c.self.invariant c.reserve_from.new.self c.reserve_from.ensures.lists)
+    (c.self.invariant.0, rw c.reserve.ensures.items (reserved c.self.invariant.1 c.reserve_from.new.self c.reserve_from.ensures.lists))
 
 pub count_sends-requires-clause-fits : goal.count_sends-requires-clause-fits
 count_sends-requires-clause-fits g c =
@@ -41,7 +42,7 @@ count_sends-requires-clause-fits g c =
     let work = rw (← c.self.view_is) at c.work_placed-work.ensures in
     let node = c.node-v.ensures in
     let plays =
-    plays_of c.args.placed.event p c.self.invariant lawful c.node-v.result node c.index-node.result.now c.index-node.ensures
+    plays_of c.args.placed.event p c.self.invariant.1 lawful c.node-v.result node c.index-node.result.now c.index-node.ensures
     c.work_placed-work.result work _ c.in_ok-answer.ensures in
     rw c.deref-2.ensures.value (fits_sent plays)
 
@@ -55,9 +56,9 @@ take_in-requires-clause-waits g c =
     let lawful = rw (← c.self.view_is) at c.requires.lawful in
     let work = rw (← c.self.view_is) at c.work_placed-work.ensures in
     let node = c.node-v.ensures in
-    let kept = reserved c.self.invariant c.reserve_from.new.self c.reserve_from.ensures.lists in
+    let held = reserved c.self.invariant.1 c.reserve_from.new.self c.reserve_from.ensures.lists in
     let plays =
-    plays_of c.args.placed.event p kept lawful c.node-v.result node c.index-node.result.now c.index-node.ensures
+    plays_of c.args.placed.event p held lawful c.node-v.result node c.index-node.result.now c.index-node.ensures
     c.work_placed-work.result work _ c.in_ok-answer.ensures in
     waits plays
 
@@ -68,11 +69,11 @@ take_in-requires-clause-fits g c =
     let work = rw (← c.self.view_is) at c.work_placed-work.ensures in
     let node = c.node-v.ensures in
     let plays =
-    plays_of c.args.placed.event p c.self.invariant lawful c.node-v.result node c.index-node.result.now c.index-node.ensures
+    plays_of c.args.placed.event p c.self.invariant.1 lawful c.node-v.result node c.index-node.result.now c.index-node.ensures
     c.work_placed-work.result work _ c.in_ok-answer.ensures in
     let counted = rw c.deref-2.ensures.value at c.count_sends.ensures in
     let later =
-    later_is c.args.placed.event p c.self.invariant lawful c.node-v.result node c.index-node.result.now c.index-node.ensures
+    later_is c.args.placed.event p c.self.invariant.1 lawful c.node-v.result node c.index-node.result.now c.index-node.ensures
     c.work_placed-work.result work c.defers-later.result c.defers-later.ensures in
     rw later (fits_taken plays c.count_sends.new.counts counted)
 
@@ -83,7 +84,7 @@ take_in-requires-clause-room g c =
     let new = c.reserve.new.self in
     let counted = rw c.deref-2.ensures.value at c.count_sends.ensures in
     rw counted.deferred
-    (room c.self.invariant p old.len new.cap old.ok.0 (omega (arith, c.reserve.ensures.len, c.in_ok-reserve.ensures.ok)) new.small)
+    (room c.self.invariant.1 p old.len new.cap old.ok.0 (omega (arith, c.reserve.ensures.len, c.in_ok-reserve.ensures.ok)) new.small)
 
 pub send_all-requires-clause-queues : goal.send_all-requires-clause-queues
 send_all-requires-clause-queues g c =
@@ -91,13 +92,13 @@ send_all-requires-clause-queues g c =
     let lawful = rw (← c.self.view_is) at c.requires.lawful in
     let work = rw (← c.self.view_is) at c.work_placed-work.ensures in
     let node = c.node-v.ensures in
-    let kept = reserved c.self.invariant c.reserve_from.new.self c.reserve_from.ensures.lists in
+    let held = reserved c.self.invariant.1 c.reserve_from.new.self c.reserve_from.ensures.lists in
     let plays =
-    plays_of c.args.placed.event p kept lawful c.node-v.result node c.index-node.result.now c.index-node.ensures
+    plays_of c.args.placed.event p held lawful c.node-v.result node c.index-node.result.now c.index-node.ensures
     c.work_placed-work.result work _ c.in_ok-answer.ensures in
     let counted = rw c.deref-2.ensures.value at c.count_sends.ensures in
     let later =
-    later_is c.args.placed.event p c.self.invariant lawful c.node-v.result node c.index-node.result.now c.index-node.ensures
+    later_is c.args.placed.event p c.self.invariant.1 lawful c.node-v.result node c.index-node.result.now c.index-node.ensures
     c.work_placed-work.result work c.defers-later.result c.defers-later.ensures in
     let taken = rw later at c.take_in.ensures in
     taken_some plays c.count_sends.new.counts c.take_in.new.counts c.take_in.new.channels counted taken
@@ -108,13 +109,13 @@ send_all-requires-clause-start g c =
     let lawful = rw (← c.self.view_is) at c.requires.lawful in
     let work = rw (← c.self.view_is) at c.work_placed-work.ensures in
     let node = c.node-v.ensures in
-    let kept = reserved c.self.invariant c.reserve_from.new.self c.reserve_from.ensures.lists in
+    let held = reserved c.self.invariant.1 c.reserve_from.new.self c.reserve_from.ensures.lists in
     let plays =
-    plays_of c.args.placed.event p kept lawful c.node-v.result node c.index-node.result.now c.index-node.ensures
+    plays_of c.args.placed.event p held lawful c.node-v.result node c.index-node.result.now c.index-node.ensures
     c.work_placed-work.result work _ c.in_ok-answer.ensures in
     let counted = rw c.deref-2.ensures.value at c.count_sends.ensures in
     let later =
-    later_is c.args.placed.event p c.self.invariant lawful c.node-v.result node c.index-node.result.now c.index-node.ensures
+    later_is c.args.placed.event p c.self.invariant.1 lawful c.node-v.result node c.index-node.result.now c.index-node.ensures
     c.work_placed-work.result work c.defers-later.result c.defers-later.ensures in
     let taken = rw later at c.take_in.ensures in
     let start = c.start_of-start.ensures ∙ sym (same_first c.self.inside.channels c.reserve_from.new.self c.reserve_from.ensures.lists.ports _) in
@@ -126,13 +127,13 @@ send_all-requires-clause-ports g c =
     let lawful = rw (← c.self.view_is) at c.requires.lawful in
     let work = rw (← c.self.view_is) at c.work_placed-work.ensures in
     let node = c.node-v.ensures in
-    let kept = reserved c.self.invariant c.reserve_from.new.self c.reserve_from.ensures.lists in
+    let held = reserved c.self.invariant.1 c.reserve_from.new.self c.reserve_from.ensures.lists in
     let plays =
-    plays_of c.args.placed.event p kept lawful c.node-v.result node c.index-node.result.now c.index-node.ensures
+    plays_of c.args.placed.event p held lawful c.node-v.result node c.index-node.result.now c.index-node.ensures
     c.work_placed-work.result work _ c.in_ok-answer.ensures in
     let counted = rw c.deref-2.ensures.value at c.count_sends.ensures in
     let later =
-    later_is c.args.placed.event p c.self.invariant lawful c.node-v.result node c.index-node.result.now c.index-node.ensures
+    later_is c.args.placed.event p c.self.invariant.1 lawful c.node-v.result node c.index-node.result.now c.index-node.ensures
     c.work_placed-work.result work c.defers-later.result c.defers-later.ensures in
     let taken = rw later at c.take_in.ensures in
     rw (c.deref-3.ensures.value, node) (taken_out plays c.count_sends.new.counts c.take_in.new.counts c.take_in.new.channels counted taken)
@@ -143,13 +144,13 @@ send_all-requires-clause-room g c =
     let lawful = rw (← c.self.view_is) at c.requires.lawful in
     let work = rw (← c.self.view_is) at c.work_placed-work.ensures in
     let node = c.node-v.ensures in
-    let kept = reserved c.self.invariant c.reserve_from.new.self c.reserve_from.ensures.lists in
+    let held = reserved c.self.invariant.1 c.reserve_from.new.self c.reserve_from.ensures.lists in
     let plays =
-    plays_of c.args.placed.event p kept lawful c.node-v.result node c.index-node.result.now c.index-node.ensures
+    plays_of c.args.placed.event p held lawful c.node-v.result node c.index-node.result.now c.index-node.ensures
     c.work_placed-work.result work _ c.in_ok-answer.ensures in
     let counted = rw c.deref-2.ensures.value at c.count_sends.ensures in
     let later =
-    later_is c.args.placed.event p c.self.invariant lawful c.node-v.result node c.index-node.result.now c.index-node.ensures
+    later_is c.args.placed.event p c.self.invariant.1 lawful c.node-v.result node c.index-node.result.now c.index-node.ensures
     c.work_placed-work.result work c.defers-later.result c.defers-later.ensures in
     let taken = rw later at c.take_in.ensures in
     let room = rw (c.deref.ensures.value, node) at c.in_ok-reserve_from.ensures.room in
@@ -161,13 +162,13 @@ send_all-requires-clause-total g c =
     let lawful = rw (← c.self.view_is) at c.requires.lawful in
     let work = rw (← c.self.view_is) at c.work_placed-work.ensures in
     let node = c.node-v.ensures in
-    let kept = reserved c.self.invariant c.reserve_from.new.self c.reserve_from.ensures.lists in
+    let held = reserved c.self.invariant.1 c.reserve_from.new.self c.reserve_from.ensures.lists in
     let plays =
-    plays_of c.args.placed.event p kept lawful c.node-v.result node c.index-node.result.now c.index-node.ensures
+    plays_of c.args.placed.event p held lawful c.node-v.result node c.index-node.result.now c.index-node.ensures
     c.work_placed-work.result work _ c.in_ok-answer.ensures in
     let counted = rw c.deref-2.ensures.value at c.count_sends.ensures in
     let later =
-    later_is c.args.placed.event p c.self.invariant lawful c.node-v.result node c.index-node.result.now c.index-node.ensures
+    later_is c.args.placed.event p c.self.invariant.1 lawful c.node-v.result node c.index-node.result.now c.index-node.ensures
     c.work_placed-work.result work c.defers-later.result c.defers-later.ensures in
     let taken = rw later at c.take_in.ensures in
     rw c.deref-3.ensures.value (fits_total plays c.count_sends.new.counts c.take_in.new.counts c.take_in.new.channels counted taken)
@@ -178,29 +179,30 @@ invariant_of-self-2 g c =
     let lawful = rw (← c.self.view_is) at c.requires.lawful in
     let work = rw (← c.self.view_is) at c.work_placed-work.ensures in
     let node = c.node-v.ensures in
-    let kept = reserved c.self.invariant c.reserve_from.new.self c.reserve_from.ensures.lists in
+    let held = reserved c.self.invariant.1 c.reserve_from.new.self c.reserve_from.ensures.lists in
     let plays =
-    plays_of c.args.placed.event p kept lawful c.node-v.result node c.index-node.result.now c.index-node.ensures
+    plays_of c.args.placed.event p held lawful c.node-v.result node c.index-node.result.now c.index-node.ensures
     c.work_placed-work.result work _ c.in_ok-answer.ensures in
     let counted = rw c.deref-2.ensures.value at c.count_sends.ensures in
     let later =
-    later_is c.args.placed.event p c.self.invariant lawful c.node-v.result node c.index-node.result.now c.index-node.ensures
+    later_is c.args.placed.event p c.self.invariant.1 lawful c.node-v.result node c.index-node.result.now c.index-node.ensures
     c.work_placed-work.result work c.defers-later.result c.defers-later.ensures in
     let taken = rw later at c.take_in.ensures in
     let out = rw (c.deref-3.ensures.value, node) at c.send_all.ensures.queues in
     let total = rw c.deref-3.ensures.value at c.send_all.ensures.total in
     let items = c.push_reserved.ensures.items ∙ ap (λ l. l ++ c.args.placed.event ∷ []) c.reserve.ensures.items in
-    let inside = node_inside c.args.placed.event p c.self.invariant lawful c.node-v.result node in
+    let inside = node_inside c.args.placed.event p c.self.invariant.1 lawful c.node-v.result node in
     let same =
     c.index_mut.ensures.value
     ∙ get_or_default c.self.inside.nodes.items (c.node-v.result - 1) c.index_mut.result.now c.index-node.result.now inside
     ∙ sym c.index-node.ensures
     in
     let state = c.apply.ensures ∙ ap (λ x. g.P.Protocol.after x c.in_ok-answer.answer.change) same in
-    rw (items, node)
-    (keeps plays c.count_sends.new.counts c.take_in.new.counts c.take_in.new.channels c.send_all.new.channels counted taken
+    let kept =
+    keeps plays c.count_sends.new.counts c.take_in.new.counts c.take_in.new.channels c.send_all.new.channels counted taken
     (out c.self.inside.graph) total _
-    (ap (λ x. slice_set c.self.inside.nodes.items (event_node c.args.placed.event - 1) x) state))
+    (ap (λ x. slice_set c.self.inside.nodes.items (event_node c.args.placed.event - 1) x) state) in
+    (c.self.invariant.0, rw (items, node) kept)
 
 pub returns-clause-event : goal.returns-clause-event
 returns-clause-event g c =
@@ -209,7 +211,7 @@ returns-clause-event g c =
     let work = rw (← c.self.view_is) at c.work_placed-work.ensures in
     let node = c.node-v.ensures in
     let plays =
-    plays_of c.args.placed.event p c.self.invariant lawful c.node-v.result node c.index-node.result.now c.index-node.ensures
+    plays_of c.args.placed.event p c.self.invariant.1 lawful c.node-v.result node c.index-node.result.now c.index-node.ensures
     c.work_placed-work.result work _ c.in_ok-answer.ensures in
     let items = c.push_reserved.ensures.items ∙ ap (λ l. l ++ c.args.placed.event ∷ []) c.reserve.ensures.items in
     rw (← c.self.view_is, items)
@@ -222,6 +224,6 @@ returns-clause-sends g c =
     let work = rw (← c.self.view_is) at c.work_placed-work.ensures in
     let node = c.node-v.ensures in
     let plays =
-    plays_of c.args.placed.event p c.self.invariant lawful c.node-v.result node c.index-node.result.now c.index-node.ensures
+    plays_of c.args.placed.event p c.self.invariant.1 lawful c.node-v.result node c.index-node.result.now c.index-node.ensures
     c.work_placed-work.result work _ c.in_ok-answer.ensures in
     rw (← c.self.view_is) (sends plays)
