@@ -1,9 +1,9 @@
 -- Texts of a set, and the entries of a book that are read one after the other.
-use Rattle.std.proofs.Common.{◌≡◌, ◌∙◌, ◌++◌, ◌+◌, ◌<◌, ◌≤◌, ℕ, suc, Bool, true, false, List, [], ◌∷◌, length, map, take, refl, sym, ap, ap₂, cond, ⊎_elim, arith, append-nil, Some, lt-ltb}
-use Rattle.std.specs.List.{flat_map, list_any, position_or_len, prefix_len}
-use Rattle.std.specs.Prelude.{position, slice_get, fold, not, ◌||◌, nat_lt, Option, None}
+use Rattle.std.proofs.Common.{◌≡◌, ◌∙◌, ◌++◌, ◌+◌, ◌<◌, ◌≤◌, ℕ, suc, Bool, true, false, List, [], ◌∷◌, length, map, take, refl, sym, ap, ap₂, cond, ⊎_elim, arith, append-nil, Some}
+use Rattle.std.specs.List.{flat_map, list_any, position_or_len}
+use Rattle.std.specs.Prelude.{position, slice_get, fold, not, ◌||◌, nat_lt, None}
 use Rattle.std.specs.Str.{bytes_eq}
-use Rattle.std.proofs.lemmas.Bool.{cond-false, ltb-false}
+use Rattle.std.proofs.lemmas.Bool.{ltb-false}
 use Rattle.std.proofs.lemmas.Grind.{flat_map-append}
 use Rattle.std.proofs.lemmas.List.{length-map}
 use Rattle.std.proofs.lemmas.List.Sums.{fold-append, prefix_len-le-length}

@@ -1,5 +1,5 @@
 -- What is left behind each message that is sent.
-use Rattle.std.proofs.Common.{◌≡◌, ◌∙◌, ◌-◌, ◌<◌, ◌≤◌, ℕ, suc, Bool, true, false, refl, sym, ap, arith, Option, Some, None, nat_le, leb-true, cond}
+use Rattle.std.proofs.Common.{◌≡◌, ◌∙◌, ◌-◌, ◌<◌, ℕ, suc, Bool, true, false, refl, sym, ap, arith, Some, None, nat_le, leb-true}
 use Rattle.std.proofs.lemmas.Bool.{cond-false, cond-true, le-leb, leb-false, lt-leb}
 use Rattle.own_rules.specs.Deed.{left_then}
 

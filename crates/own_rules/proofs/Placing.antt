@@ -12,7 +12,7 @@ use Rattle.std.proofs.lemmas.Option.{get_or_from_slice_get, same_Some, slice_get
 use Rattle.std.proofs.Math.Seq.{take-suc}
 use Rattle.own_book.specs.Entry.{Entry}
 use Rattle.own_rules.specs.Places.{ArePlaces, first_at, place_in}
-use Rattle.own_rules.specs.Questions.{answer_at, asks, entry_at, is_lookup, lookup_of, same_lookup}
+use Rattle.own_rules.specs.Questions.{answer_at, asks, is_lookup, lookup_of, same_lookup}
 use Rattle.own_rules.specs.Texts.{Text}
 use Rattle.own_rules.specs.contracts.node.LookupPartialEq.TheImpl.{eq-value}
 use Rattle.own_rules.specs.declared.node.Lookup.{Lookup}

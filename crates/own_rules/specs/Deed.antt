@@ -4,7 +4,7 @@ use Rattle.own_answers.specs.Sends.{Sending, sends_fault}
 use Rattle.own_answers.specs.Variables.{says_asleep}
 use Rattle.own_answers.specs.declared.fault.AnswerFault.{AnswerFault}
 use Rattle.own_answers.specs.declared.fault.AnswerFault.TheVariants as faults
-use Rattle.own_book.specs.Answer.{Saying, greets, opens, reacts, gives_up, saying, sends_in}
+use Rattle.own_book.specs.Answer.{Saying, reacts, gives_up, saying, sends_in}
 use Rattle.own_book.specs.Entry.{Entry}
 use Rattle.own_rules.specs.Questions.{answer_at, asked_for}
 use Rattle.own_rules.specs.Texts.{Text, kinds_of, texts_of}

@@ -1,5 +1,5 @@
 -- What holds of the rules of every book.
-use Rattle.std.specs.Prelude.{ℕ, ◌+◌, ◌*◌, ◌<◌, ◌≤◌, ◌^◌, length, List}
+use Rattle.std.specs.Prelude.{ℕ, ◌+◌, ◌*◌, ◌≤◌, length, List}
 use Rattle.ghs_graph.specs.Graph.{Shape, IsGraph}
 use Rattle.own_book.specs.Entry.{Entry}
 use Rattle.peer_network.specs.declared.event.Event.{Event}

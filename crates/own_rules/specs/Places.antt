@@ -1,5 +1,5 @@
 -- Where the book answers each question of a run.
-use Rattle.std.specs.Prelude.{◌≡◌, ℕ, cond, position, true, List, Option, Some, None}
+use Rattle.std.specs.Prelude.{◌≡◌, ℕ, cond, position, true, List, Option, Some}
 use Rattle.std.specs.Map.{lookup}
 use Rattle.std.specs.Option.{is_some}
 use Rattle.own_book.specs.Answer.{are_kinds}

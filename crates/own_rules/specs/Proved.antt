@@ -1,19 +1,17 @@
 -- The rules of a book keep what a protocol promises. (What an impl has to prove of its members has to stand in specs/; no clause cites it.)
-use Rattle.std.proofs.Common.{◌≡◌, ◌≢◌, ℕ, suc, ◌+◌, ◌-◌, ◌*◌, ◌<◌, ◌≤◌, ◌^◌, Bool, true, false, cond, nat_le, nat_lt, Option, Some, None, IsSome, List, [], ◌∷◌, length, map, refl, sym, ◌∙◌, ap, subst, ⊎_elim, arith, leb-true, ltb-true}
-use Rattle.std.specs.Prelude.{position, unwrap_or}
+use Rattle.std.proofs.Common.{◌≡◌, ◌≢◌, ℕ, suc, ◌+◌, ◌-◌, ◌*◌, ◌<◌, ◌≤◌, ◌^◌, Bool, true, false, cond, nat_le, nat_lt, Option, Some, None, IsSome, List, [], ◌∷◌, length, refl, sym, ◌∙◌, ap, subst, ⊎_elim, arith, leb-true, ltb-true}
+use Rattle.std.specs.Prelude.{unwrap_or}
 use Rattle.std.specs.List.{position_or_len}
 use Rattle.std.specs.Str.{bytes_eq}
 use Rattle.std.proofs.lemmas.Bool.{and_from, and_parts, cases_eq, cond-false, cond-true}
 use Rattle.std.proofs.lemmas.List.{length-map}
 use Rattle.std.proofs.lemmas.Nat.{mul-le}
 use Rattle.std.proofs.lemmas.Option.{same_Some}
-use Rattle.ghs_graph.specs.Graph.{Shape}
-use Rattle.ghs_graph.specs.declared.port.Port.{Port}
 use Rattle.own_answers.specs.Sends.{Sending, kind_in, names_kind, sends_fault}
 use Rattle.own_answers.specs.Variables.{says_asleep}
 use Rattle.own_answers.specs.declared.fault.AnswerFault.{AnswerFault}
 use Rattle.own_answers.specs.declared.fault.AnswerFault.TheVariants.{Garbled, GivesUp, NoKind, NoPort, StillAsleep}
-use Rattle.own_book.specs.Answer.{Saying, greets, opens, reacts, gives_up, kinds_in, saying, sends_in}
+use Rattle.own_book.specs.Answer.{Saying, greets, opens, reacts, gives_up, saying, sends_in}
 use Rattle.own_book.specs.Entry.{Entry, told_in}
 use Rattle.own_book.specs.Parts.{cut_at}
 use Rattle.own_book.specs.declared.question.Asked.TheVariants as asked
@@ -31,9 +29,9 @@ use Rattle.peer_machine.specs.Steps.{Happens, Woke, Took}
 use Rattle.peer_machine.proofs.lemmas.Budget.{sends_within}
 use Rattle.peer_machine.proofs.lemmas.Runs.{run_keeps}
 use Rattle.peer_machine.proofs.lemmas.Sends.{node_here, node_there}
-use Rattle.own_rules.specs.Deed.{Deed, cost, deed_by, deed_of, deed_said, goes_on, left_then, paid, paid_by, reaction_fault, stops, unless_faulty}
+use Rattle.own_rules.specs.Deed.{Deed, cost, deed_by, deed_of, deed_said, paid, paid_by, reaction_fault, stops, unless_faulty}
 use Rattle.own_rules.specs.Questions.{answer_at, asked_for, open_text}
-use Rattle.own_rules.specs.Rules.{deferred, lookup_at, message_in, next, numbered, opened, opened_by, opening, reacted, rules_of, sends_by, sent, sleeps, state_by, waits_by}
+use Rattle.own_rules.specs.Rules.{deferred, lookup_at, message_in, next, numbered, opened, opened_by, reacted, rules_of, sends_by, sent, sleeps, state_by, waits_by}
 use Rattle.own_rules.specs.Texts.{Text, kinds_of, names_of, text_at, texts_of}
 use Rattle.own_rules.specs.declared.node.Lookup.{Lookup}
 use Rattle.own_rules.specs.declared.node.Message.{Message}
@@ -235,3 +233,6 @@ told_fits most few g ok =
 
 pub none_are_few : 0 < 2 ^ 32
 none_are_few = omega arith
+
+pub runs_are_few : 1048576 < 2 ^ 32
+runs_are_few = omega arith

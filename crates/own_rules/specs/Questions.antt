@@ -1,5 +1,5 @@
 -- What the book is asked, and which entry answers.
-use Rattle.std.specs.Prelude.{ℕ, Bool, false, codes, decimal, find, position, ◌==◌, ◌&&◌, ◌++◌, List, Option, Some, None, option_and_then}
+use Rattle.std.specs.Prelude.{ℕ, Bool, false, codes, decimal, find, position, ◌==◌, ◌&&◌, ◌++◌, List, Option, Some, None}
 use Rattle.std.specs.List.{flat_map}
 use Rattle.std.specs.Option.{option_map}
 use Rattle.std.specs.Str.{bytes_eq}

@@ -1,11 +1,10 @@
 -- The rules of a book: a node does what the book answers.
-use Rattle.std.specs.Prelude.{◌≡◌, ℕ, Bool, false, length, map, List, [], ◌∷◌, Option, Some, None}
-use Rattle.ghs_graph.specs.Graph.{Shape}
+use Rattle.std.specs.Prelude.{ℕ, Bool, false, length, map, List, [], Option, Some, None}
 use Rattle.ghs_graph.specs.declared.port.Port.{Port}
 use Rattle.own_answers.specs.Sends.{Sending}
 use Rattle.own_answers.specs.Variables.{says_asleep, says_halted}
 use Rattle.own_answers.specs.declared.fault.AnswerFault.TheVariants as faults
-use Rattle.own_book.specs.Answer.{Saying, greets, opens, reacts, gives_up, saying}
+use Rattle.own_book.specs.Answer.{Saying, opens, gives_up, saying}
 use Rattle.own_book.specs.Entry.{Entry, told_in}
 use Rattle.own_book.specs.declared.question.Asked.TheVariants as asked
 use Rattle.peer_machine.specs.declared.work.Work.{Work}
@@ -23,7 +22,6 @@ use Rattle.own_rules.specs.declared.node.Reason.{Reason}
 use Rattle.own_rules.specs.declared.node.Reason.TheVariants.{Unanswered, Fails}
 use Rattle.own_rules.specs.declared.node.State.{State}
 use Rattle.own_rules.specs.declared.node.State.TheVariants.{Runs, Stopped}
-use Rattle.own_rules.specs.declared.node.Stop.{Stop}
 
 abbrev pub stopped : Option Lookup → Reason → State
 stopped asked reason = Stopped (record { asked = asked; reason = reason })

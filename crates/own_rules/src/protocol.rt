@@ -14,6 +14,12 @@ use peer_machine::work::{Answer, Work};
 use std::alloc::{AllocError, Global};
 use std::marker::{Brand, PhantomData};
 
+/// How many messages a node may send and defer in a run.
+pub const RUN_MESSAGES: u32 = 1_048_576;
+
+/// How many in a network all of whose runs are explored: so that 12 nodes send 65,532 at most.
+pub const EXPLORE_MESSAGES: u32 = 5_461;
+
 /// By which book a run goes, and how many messages each of its nodes may send and defer. Only the running program knows.
 pub trait Chosen {
     ghost use Rattle.own_book.specs.Entry.{Entry};

@@ -1,4 +1,4 @@
-use Rattle.std.proofs.Common.{◌≡◌, ℕ, true, fold, length, map, List}
+use Rattle.std.proofs.Common.{◌≡◌, true, fold, length, map}
 use Rattle.own_book.specs.Answer.{are_kinds, kinds_in}
 use Rattle.own_rules.specs.Texts.{Text, names_of, noted}
 use Rattle.own_rules.proofs.texts.names_of.Given as goal

@@ -1,4 +1,4 @@
-use Rattle.std.proofs.Common.{◌≡◌, ap, refl, sym, subst, OnOk, Result, Ok, Err, Some, None}
+use Rattle.std.proofs.Common.{◌≡◌, refl, subst, OnOk, Result, Ok, Err, Some, None}
 use Rattle.std.proofs.lemmas.Option.{same_Some}
 use Rattle.own_rules.specs.Places.{first_at, place_in}
 use Rattle.own_rules.specs.declared.node.Lookup.{Lookup}

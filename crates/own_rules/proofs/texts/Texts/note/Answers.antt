@@ -1,9 +1,9 @@
-use Rattle.std.proofs.Common.{◌≡◌, ◌∙◌, ◌++◌, ◌∷◌, [], ℕ, true, false, List, ap, ap₂, sym, map}
+use Rattle.std.proofs.Common.{◌≡◌, ◌∙◌, ◌++◌, ◌∷◌, [], true, false, List, ap, ap₂, sym, map}
 use Rattle.std.specs.List.{list_any}
 use Rattle.std.specs.Str.{bytes_eq}
 use Rattle.std.proofs.lemmas.Bool.{cond-false, cond-true}
 use Rattle.std.proofs.lemmas.List.{map-append}
-use Rattle.own_rules.specs.Texts.{Text, noted}
+use Rattle.own_rules.specs.Texts.{Text}
 use Rattle.own_rules.proofs.Numbering.{any_is}
 use Rattle.own_rules.proofs.texts.Texts.note.Goals as goal
 
