@@ -6,6 +6,7 @@ pub mod Entry
 pub mod Laws
 pub mod Line
 pub mod Parts
+pub mod Query
 pub mod Question
 pub mod Reads
 pub mod Text

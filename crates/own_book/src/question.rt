@@ -1,8 +1,10 @@
 //! Questions, and what each asks for.
 ghost use Rattle.own_book.specs.Parts.{parts_at};
+ghost use Rattle.own_book.specs.Query.{asked_by, asking_of, take_asking, wake_asking};
 ghost use Rattle.own_book.specs.Question.{asked, greeting_asked, opening_asked, take_asked, wake_asked};
 ghost use Rattle.own_book.specs.Words.{is_key as is_key_of, is_number as is_number_of};
 ghost use Rattle.std.specs.List.{list_all};
+ghost use Rattle.std.specs.Option.{option_map};
 ghost use Rattle.std.specs.Prelude.{IfNone, IfSome, [], length, ◌≡◌, ◌≢◌, ◌∷◌};
 
 use crate::fault::LineFault;
@@ -20,6 +22,64 @@ pub enum Asked {
     Wake,
     /// `take NODE PORT MESSAGE STATE`: what a node does with a message that came in at this port.
     Take,
+}
+
+/// What a question asks of a node at an event. Its parts are those of its text.
+#[derive(Clone, Copy, Drop)]
+pub enum Query<'a> {
+    /// What it does in this state when it wakes by itself.
+    Wake {
+        node: u32,
+        state: &'a [u8],
+    },
+    /// What it does in this state with this message, which came in at this port.
+    Take {
+        node: u32,
+        port: u32,
+        message: &'a [u8],
+        state: &'a [u8],
+    },
+}
+
+/// What a question asks of a node at an event; none where it asks for a greeting or an opening, or is no question.
+///
+/// ```text
+/// let query = read_query(b"take 2 0 test(1) level=0");
+/// // Some(Query::Take { node: 2, port: 0, message: b"test(1)", state: b"level=0" })
+/// ```
+pub fn read_query(question: &[u8]) -> Option<Query<'_>>
+    ensures { option_map asked_by result ≡ asking_of question.now }
+{
+    let (word, rest) = cut(question, b' ')?;
+    match word {
+        b"wake" => wake_query(rest),
+        b"take" => take_query(rest),
+        _ => None,
+    }
+}
+
+/// The same of what is behind `wake`.
+fn wake_query(rest: &[u8]) -> Option<Query<'_>>
+    ensures { option_map asked_by result ≡ wake_asking (parts_at 32 rest.now) }
+{
+    let (node, state) = two_parts(rest)?;
+    let node = plain_number(node)?;
+    Some(Query::Wake { node, state })
+}
+
+/// The same of what is behind `take`.
+fn take_query(rest: &[u8]) -> Option<Query<'_>>
+    ensures { option_map asked_by result ≡ take_asking (parts_at 32 rest.now) }
+{
+    let (node, port, message, state) = four_parts(rest)?;
+    let node = plain_number(node)?;
+    let port = plain_number(port)?;
+    Some(Query::Take {
+        node,
+        port,
+        message,
+        state,
+    })
 }
 
 /// What a question asks for, or why it is none: BadLine where its words aren't those of a question, and else the fault of its

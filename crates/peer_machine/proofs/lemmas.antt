@@ -6,3 +6,4 @@ pub mod Balance
 pub mod Counts
 pub mod Others
 pub mod Ends
+pub mod Budget

@@ -1,5 +1,5 @@
 -- What a protocol promises of the ends of its runs.
-use Rattle.std.specs.Prelude.{◌≡◌, ◌↔◌, ℕ, List, [], false}
+use Rattle.std.specs.Prelude.{◌≡◌, ◌↔◌, ℕ, [], false}
 use Rattle.ghs_graph.specs.Graph.{Shape}
 use Rattle.ghs_graph.specs.Links.{Joined, links}
 use Rattle.peer_network.specs.Network.{Network, network_of, InNetwork, At}

@@ -9,3 +9,4 @@ pub mod Protocol
 pub mod Explorable
 pub mod Ends
 pub mod Branches
+pub mod Budget

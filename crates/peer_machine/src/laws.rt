@@ -1,6 +1,7 @@
 //! What holds under any rules, in every run of every graph. Each law is a function that does nothing; `S` is the type of a
 //! node's states, `M` that of messages.
 ghost use Rattle.peer_machine.specs.Rules.{Rules};
+ghost use Rattle.peer_machine.specs.Budget.{EndsWithin, SendsWithin};
 ghost use Rattle.peer_machine.specs.Laws.{EventsHappenSo, KindsBalance, LedgerBalances, CountsStay, TakesAreCounted, DeferredGoLast, TakenOnce, EventsAreFew, OthersStay, OthersQueue};
 
 /// What an event does is what the relation says.
@@ -42,6 +43,13 @@ pub fn law_taken_once<S, M>()
 /// bound on what is sent bounds each run.
 pub fn law_ends<S, M>()
     ensures { (r : Rules S M) → EventsAreFew r }
+{}
+
+/// Where each node opens with a budget, and each message that it sends or defers costs one of it, no run sends more messages
+/// than the budgets together; where besides each event leaves its node awake, each run comes to an end.
+pub fn law_budget<S, M>()
+    ensures sends { (r : Rules S M) → SendsWithin r }
+    ensures ends { (r : Rules S M) → EndsWithin r }
 {}
 
 /// An event changes no node but its own.

@@ -136,10 +136,16 @@ module _ {S M : Type 0} (r : Rules S M) where
         let rest = run_awakes (ds ++ e ∷ []) es x w' (after_more r (network_of g) ds e w x i k) b in
         omega (arith, one, rest, wakes_split e es))
 
+  -- a run has at most as many wakes as there are nodes
+  pub wakes_few : StaysAwake r → (g : Shape) → IsGraph g → (es : List Event) (w : Net S M) → IsAfter r (network_of g) es w →
+      length es ≤ takes_in es + g.nodes
+  wakes_few awake g ok es w h =
+      let woken = run_awakes awake g ok [] es (opening r (network_of g)) w refl h in
+      let most : awake_in (network_of g) w ≤ g.nodes = sum_few g.nodes (λ i. up_of (r.is_asleep (w.node (suc i)))) (λ i. up_one _) in
+      omega (arith, all_events es, woken, most)
+
   pub events_few : NeverDefers r → StaysAwake r → HasKinds r → (g : Shape) (es : List Event) (w : Net S M) → IsGraph g →
       IsAfter r (network_of g) es w → length es ≤ in_all r w.sent + g.nodes
   events_few never awake kinds g es w ok h =
       let taken = (taken_once never kinds g es w ok h).1 in
-      let woken = run_awakes awake g ok [] es (opening r (network_of g)) w refl h in
-      let most : awake_in (network_of g) w ≤ g.nodes = sum_few g.nodes (λ i. up_of (r.is_asleep (w.node (suc i)))) (λ i. up_one _) in
-      omega (arith, all_events es, taken, woken, most)
+      omega (arith, taken, wakes_few awake g ok es w h)

@@ -1,0 +1,10 @@
+-- To be believed: contracts cite what stands here, and what it is made of. Proved has proofs that the impl has to name.
+pub mod Texts
+pub mod Questions
+pub mod Deed
+pub mod Bits
+pub mod Rules
+pub mod Done
+pub mod Places
+pub mod Proved
+pub mod Laws

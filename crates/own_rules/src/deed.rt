@@ -1,0 +1,114 @@
+//! What a node does by an answer of the book.
+ghost use Rattle.own_answers.specs.declared.fault.AnswerFault.TheVariants as faults;
+ghost use Rattle.own_book.specs.Answer.{IsReadable, are_kinds, are_sends, said_by, sends_in};
+ghost use Rattle.own_rules.specs.Deed.{cost, deed_said as deed_of_saying, left_then, paid as paid_from, reaction_fault as fault_of_reaction};
+ghost use Rattle.own_rules.specs.Done.{AreSends, done_by};
+ghost use Rattle.std.specs.Option.{option_map};
+ghost use Rattle.std.specs.Prelude.{IfSome, length, true, ◌≡◌};
+
+use crate::node::Reason;
+use own_answers::fault::AnswerFault;
+use own_answers::sends::sends_fault;
+use own_answers::variables::says_asleep;
+use own_book::answer::{Answer, next_sent};
+
+/// What a node does: it goes on in this state, and may then send and defer so many messages more; or it stops. Its texts are
+/// those of the answer.
+#[derive(Clone, Copy, Drop)]
+pub(crate) enum Done<'a> {
+    GoesOn {
+        after: &'a [u8],
+        waits: bool,
+        sends: &'a [u8],
+        left: u32,
+    },
+    Stops(Reason),
+}
+
+/// What a node of so many ports does by an answer, if it may still send and defer so many messages.
+pub(crate) fn done_by_answer<'a>(
+    kinds: &[u8],
+    ports: u32,
+    left: u32,
+    answer: Option<Answer<'a>>,
+) -> Done<'a>
+    requires kinds { are_kinds kinds.now ≡ true }
+    requires answer { IfSome answer IsReadable }
+    ensures done { done_by result ≡ deed_of_saying kinds.now ports left (option_map said_by answer.entry) }
+    ensures sends { AreSends result }
+{
+    match answer {
+        Some(
+            Answer::Reaction {
+                state,
+                waits,
+                sends,
+            },
+        ) => match reaction_fault(kinds, ports, state, sends) {
+            Some(fault) => Done::Stops(Reason::Fails(fault)),
+            None => paid(left, state, waits, sends),
+        },
+        Some(Answer::GivesUp(_)) => Done::Stops(Reason::Fails(AnswerFault::GivesUp)),
+        _ => Done::Stops(Reason::Fails(AnswerFault::Garbled)),
+    }
+}
+
+/// Why a reaction is none of a node, if so.
+fn reaction_fault(kinds: &[u8], ports: u32, after: &[u8], sends: &[u8]) -> Option<AnswerFault>
+    requires kinds { are_kinds kinds.now ≡ true }
+    requires sends { are_sends sends.now ≡ true }
+    ensures { result ≡ fault_of_reaction kinds.now ports after.now (sends_in sends.now) }
+{
+    if says_asleep(after) {
+        return Some(AnswerFault::StillAsleep);
+    }
+    sends_fault(kinds, ports, sends)
+}
+
+/// A reaction without a fault.
+fn paid<'a>(left: u32, after: &'a [u8], waits: bool, sends: &'a [u8]) -> Done<'a>
+    requires { are_sends sends.now ≡ true }
+    ensures done { done_by result ≡ paid_from left after.entry.now waits (sends_in sends.entry.now) }
+    ensures sends { AreSends result }
+{
+    match left_then(left, waits, sends) {
+        Some(left) => Done::GoesOn {
+            after,
+            waits,
+            sends,
+            left,
+        },
+        None => Done::Stops(Reason::Spent),
+    }
+}
+
+/// How many messages a node may send and defer once it has sent these, and deferred one or not; none where that were too many.
+fn left_then(left: u32, waits: bool, sends: &[u8]) -> Option<u32>
+    requires { are_sends sends.now ≡ true }
+    ensures { result ≡ left_then left (cost waits (sends_in sends.now)) }
+{
+    if !waits {
+        return left_behind(left, sends);
+    }
+    if left == 0 {
+        return None;
+    }
+    left_behind(left - 1, sends)
+}
+
+/// The same once it has sent these.
+fn left_behind(most: u32, sends: &[u8]) -> Option<u32>
+    requires { are_sends sends.now ≡ true }
+    ensures { result ≡ left_then most (length (sends_in sends.now)) }
+{
+    let mut left = most;
+    let mut rest = sends;
+    'sends: while let Some((_, after)) = next_sent(rest) {
+        if left == 0 {
+            return None;
+        }
+        left -= 1;
+        rest = after;
+    }
+    Some(left)
+}

@@ -1,0 +1,25 @@
+//! The rules of a user's book, as a protocol: each node does what the book answers.
+//!
+//! A node's state is a text of the book, by its number; so is a message. At an event the node is asked as `own_book` spells it,
+//! and the book's first answer to just that says its next state, whether it defers the message, and what it sends. A node to
+//! which the book has no answer, or one that no node may give, *stops* (`Stop`): it stays so, sends nothing, and says at which
+//! question and why. So every work has a reaction. A node also stops once it would send and defer more messages than a run
+//! allows (`RUN_MESSAGES`, `EXPLORE_MESSAGES`).
+//!
+//! Proved: whatever the book says, each lawful event has a rule, no run sends more than so many messages for each node, who has
+//! got work is awake, and each run comes to an end (`law_rules`). `Rulebook` is a book with its texts numbered and its answers
+//! found by numbers; contracts see the entries of the book alone. `Told` is an `impl Protocol` whose rules are those of the book
+//! that a type names (`Chosen`), which a call picks when a run begins.
+//!
+//! Not claimed: that the book is the answers of a program. Questions are compared field by field: that the entry that answers is
+//! the one whose question has the very text that is asked, isn't proved here. Read `specs/Rules.antt` and `specs/Deed.antt`
+//! first. Next: `own_runs`, runs by a book.
+#![tactic(auto)]
+
+mod deed;
+pub mod laws;
+pub mod node;
+mod places;
+pub mod protocol;
+pub mod rulebook;
+mod texts;

@@ -1,0 +1,244 @@
+//! The rules of a book as a protocol.
+ghost use Rattle.own_rules.specs.Done.{AreSends, done_by};
+ghost use Rattle.own_rules.specs.Rules.{lookup_at as lookup_of_work, sends_by, state_by, waits_by};
+ghost use Rattle.own_rules.specs.Texts.{texts_of};
+ghost use Rattle.std.specs.Prelude.{IfOk, ◌≡◌};
+
+use crate::deed::Done;
+use crate::node::{Lookup, Message, Node, State, Stop};
+use crate::rulebook::Rulebook;
+use ghs_graph::graph::Graph;
+use ghs_graph::port::Port;
+use peer_machine::protocol::Protocol;
+use peer_machine::work::{Answer, Work};
+use std::alloc::{AllocError, Global};
+use std::marker::{Brand, PhantomData};
+
+/// How many messages a node may send and defer in a run.
+pub const RUN_MESSAGES: u32 = 1_048_576;
+
+/// How many in a network all of whose runs are explored: so that 12 nodes send 65,532 at most.
+pub const EXPLORE_MESSAGES: u32 = 5_461;
+
+/// By which book a run goes, and how many messages each of its nodes may send and defer. Only the running program knows.
+pub trait Chosen {
+    ghost use Rattle.own_book.specs.Entry.{Entry};
+    ghost use Rattle.std.specs.Prelude.{ℕ, ◌<◌, ◌^◌, List};
+
+    ghost book: { List Entry };
+
+    ghost most: { ℕ };
+
+    ghost few: { most < 2 ^ 32 };
+}
+
+/// A call that names `Brand` picks. By itself it stands for a book that says nothing.
+impl Chosen for Brand {
+    ghost use Rattle.own_rules.specs.Proved.{none_are_few};
+    ghost use Rattle.std.specs.Prelude.{[]};
+
+    ghost book = { [] };
+
+    ghost most = { 0 };
+
+    ghost few = { none_are_few };
+}
+
+/// A book to run, and how many messages each node may send and defer.
+#[derive(Clone, Copy)]
+pub struct Playing<'a> {
+    pub rules: &'a Rulebook,
+    pub most: u32,
+}
+
+/// A node does what a book answers.
+pub struct Told<'a, J: Chosen> {
+    of: PhantomData<(&'a Rulebook, J)>,
+}
+
+impl<'a, J: Chosen> Protocol for Told<'a, J> {
+    ghost use Rattle.own_rules.specs.Proved.{told_bound, told_fits, told_kinds, told_rules};
+    ghost use Rattle.own_rules.specs.Rules.{after as changed, rules_of};
+    ghost use Rattle.std.specs.Prelude.{◌≡◌, ◌*◌, IfOk, IsSome, Some};
+
+    type Node = Node;
+
+    type Message = Message;
+
+    type Change = State;
+
+    type Setting = Playing<'a>;
+
+    ghost goes_by = { λ set. (set.rules.now ≡ J.book) × (set.most ≡ J.most) };
+
+    ghost rules = { rules_of J.book J.most };
+
+    ghost after = { changed };
+
+    ghost bound = { λ g. g.nodes * J.most };
+
+    fn open(alloc: Global, set: Playing<'a>, v: u32, ports: &[Port]) -> Result<Node, AllocError> {
+        Ok(Node {
+            number: v,
+            ports: ports.len() as u32,
+            state: set.rules.opened(alloc, v, ports, set.most)?,
+        })
+    }
+
+    fn is_asleep(node: &Node) -> bool
+        ensures { result ≡ (rules_of J.book J.most).is_asleep node.now }
+    {
+        match node.state {
+            State::Runs {
+                text: _,
+                asleep,
+                left: _,
+            } => asleep,
+            State::Stopped(_) => false,
+        }
+    }
+
+    fn react(
+        alloc: Global,
+        set: Playing<'a>,
+        node: &Node,
+        work: Work<Message>,
+    ) -> Result<Answer<State, Message>, AllocError>
+        requires setting { (set.rules.now ≡ J.book) × (set.most ≡ J.most) }
+        requires rule { IsSome ((rules_of J.book J.most).reaction node.now work) }
+        ensures { IfOk result (λ a. (rules_of J.book J.most).reaction node.now work ≡ Some (record { state = changed node.now a.change; sends = a.sends.items })) }
+    {
+        match node.state {
+            State::Runs {
+                text,
+                asleep: _,
+                left,
+            } => {
+                let lookup = lookup_at(node.number, text, work);
+                done(
+                    alloc,
+                    set.rules,
+                    lookup,
+                    set.rules.done(node.ports, left, lookup),
+                )
+            }
+            State::Stopped(stop) => Ok(Answer {
+                change: State::Stopped(stop),
+                sends: Vec::new(alloc),
+            }),
+        }
+    }
+
+    fn defers(set: Playing<'a>, node: &Node, work: Work<Message>) -> bool
+        requires { (set.rules.now ≡ J.book) × (set.most ≡ J.most) }
+        ensures { result ≡ (rules_of J.book J.most).defers node.now work }
+    {
+        match (work, node.state) {
+            (
+                Work::Deliver {
+                    port: _,
+                    message: _,
+                },
+                State::Runs {
+                    text,
+                    asleep: _,
+                    left,
+                },
+            ) => waits(
+                set.rules
+                    .done(node.ports, left, lookup_at(node.number, text, work)),
+            ),
+            _ => false,
+        }
+    }
+
+    fn apply(node: &mut Node, change: &State)
+        ensures { node.new ≡ changed node.old change.now }
+    {
+        node.state = *change;
+    }
+
+    fn kinds(set: Playing<'a>) -> usize {
+        set.rules.kinds()
+    }
+
+    fn kind(set: Playing<'a>, message: Message) -> usize {
+        set.rules.kind(message)
+    }
+
+    fn bound_of(set: Playing<'a>, graph: &Graph) -> u64 {
+        u64::from(graph.nodes()) * u64::from(set.most)
+    }
+
+    ghost has_kinds = { told_kinds J.book J.most };
+
+    ghost has_rules = { told_rules J.book J.most };
+
+    ghost is_bounded = { told_bound J.book J.most };
+
+    ghost bound_fits = { told_fits J.most J.few };
+}
+
+/// What a node is asked in a state when it gets some work.
+fn lookup_at(node: u32, state: usize, work: Work<Message>) -> Lookup
+    ensures { result ≡ lookup_of_work node state work }
+{
+    match work {
+        Work::Wake => Lookup::Wake { node, state },
+        Work::Deliver { port, message } => Lookup::Take {
+            node,
+            port,
+            message: message.text,
+            state,
+        },
+    }
+}
+
+/// Whether a node defers the message.
+fn waits(done: Done) -> bool
+    ensures { result ≡ waits_by (done_by done.entry) }
+{
+    match done {
+        Done::GoesOn {
+            after: _,
+            waits,
+            sends: _,
+            left: _,
+        } => waits,
+        Done::Stops(_) => false,
+    }
+}
+
+/// What a node does, by numbers. Refusal: out of memory.
+fn done(
+    alloc: Global,
+    rules: &Rulebook,
+    lookup: Lookup,
+    done: Done,
+) -> Result<Answer<State, Message>, AllocError>
+    requires { AreSends done }
+    ensures { IfOk result (λ a. (a.change ≡ state_by (texts_of rules.now) lookup (done_by done.entry)) × (a.sends.items ≡ sends_by (texts_of rules.now) (done_by done.entry))) }
+{
+    match done {
+        Done::GoesOn {
+            after,
+            waits: _,
+            sends,
+            left,
+        } => Ok(Answer {
+            change: State::Runs {
+                text: rules.number(after),
+                asleep: false,
+                left,
+            },
+            sends: rules.numbered(alloc, sends)?,
+        }),
+        Done::Stops(reason) => Ok(Answer {
+            change: State::Stopped(Stop {
+                asked: Some(lookup),
+                reason,
+            }),
+            sends: Vec::new(alloc),
+        }),
+    }
+}

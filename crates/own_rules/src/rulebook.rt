@@ -1,0 +1,259 @@
+//! A book, ready to run.
+ghost use Rattle.own_answers.specs.Sends.{kind_in};
+ghost use Rattle.own_book.specs.Answer.{are_kinds, are_sends, saying, sends_in};
+ghost use Rattle.own_book.specs.Entry.{told_in};
+ghost use Rattle.own_book.specs.Parts.{cut_at};
+ghost use Rattle.own_book.specs.declared.question.Asked.TheVariants.{Opening};
+ghost use Rattle.own_rules.specs.Deed.{deed_of};
+ghost use Rattle.own_rules.specs.Done.{AreSends, done_by};
+ghost use Rattle.own_rules.specs.Questions.{answer_at, asked_for as asks_for, key_behind_blank, open_text};
+ghost use Rattle.own_rules.specs.Rules.{numbered, opened, opened_by, stopped as stopped_at};
+ghost use Rattle.own_rules.specs.Texts.{kind_among, kinds_many, kinds_of, number_in, text_at, texts_of as texts_of_book};
+ghost use Rattle.std.specs.List.{flat_map};
+ghost use Rattle.std.specs.Prelude.{IfNone, IfOk, IfSome, None, Some, true, ◌++◌, ◌≡◌};
+
+use crate::deed::{Done, done_by_answer};
+use crate::node::{Lookup, Message, Reason, State, Stop};
+use crate::places::{Places, places_of};
+use crate::texts::{Texts, names_of, texts_of};
+use ghs_graph::port::Port;
+use ghs_lines::numbers::put_number;
+use own_answers::fault::AnswerFault;
+use own_answers::variables::says_asleep;
+use own_book::answer::{Answer, next_sent, read_answer};
+use own_book::book::Book;
+use own_book::parts::cut;
+use own_book::question::Asked;
+use peer_words::text::put_key;
+use std::alloc::{AllocError, Global};
+use std::marker::Model;
+
+/// A book with its texts numbered and its answers found by numbers. Contracts see the entries of the book.
+#[derive(Drop)]
+pub struct Rulebook {
+    book: Book,
+    /// The kinds of messages that the greeting names.
+    kinds: Vec<u8>,
+    /// Their names.
+    names: Texts,
+    texts: Texts,
+    places: Places,
+}
+
+impl Model for Rulebook {
+    ghost use Rattle.own_book.specs.Entry.{Entry};
+    ghost use Rattle.own_rules.specs.Places.{IsIndexed};
+    ghost use Rattle.std.specs.Prelude.{List};
+
+    ghost Value = { List Entry };
+
+    ghost view = { λ r. r.book };
+
+    ghost invariant = { λ r. IsIndexed r.book r.kinds.items r.names r.texts r.places };
+}
+
+impl Rulebook {
+    /// A book made ready, in a time that grows with its text. Refusal: out of memory.
+    ///
+    /// ```text
+    /// let rules = Rulebook::of(alloc, read_book(alloc, text)?)?;
+    /// // contracts see the entries of the book that was read
+    /// ```
+    pub fn of(alloc: Global, book: Book) -> Result<Rulebook, AllocError>
+        ensures { IfOk result (λ rules. rules ≡ book) }
+    {
+        let texts = texts_of(alloc, &book)?;
+        let places = places_of(alloc, &book, &texts)?;
+        let kinds = greeted_kinds(alloc, &book)?;
+        let names = names_of(alloc, &kinds)?;
+        Ok(Rulebook {
+            book,
+            kinds,
+            names,
+            texts,
+            places,
+        })
+    }
+
+    /// The text with a number.
+    pub fn text(&self, number: usize) -> &[u8]
+        ensures { result.now ≡ text_at (texts_of_book self.now) number }
+    {
+        self.texts.text(number)
+    }
+
+    /// What the book answers to a question.
+    pub(crate) fn answer(&self, lookup: Lookup) -> Option<&[u8]>
+        ensures some { IfSome result (λ answer. answer_at (texts_of_book self.now) self.now lookup ≡ Some answer.now) }
+        ensures none { IfNone result (answer_at (texts_of_book self.now) self.now lookup ≡ None) }
+    {
+        let place = self.places.place(lookup)?;
+        let (_, answer) = self.book.entry(place)?;
+        Some(answer)
+    }
+
+    /// What a node of so many ports does by the book, if it may still send and defer so many messages.
+    pub(crate) fn done(&self, ports: u32, left: u32, lookup: Lookup) -> Done<'_>
+        ensures done { done_by result ≡ deed_of self.now ports left lookup }
+        ensures sends { AreSends result }
+    {
+        match self.answer(lookup) {
+            None => Done::Stops(Reason::Unanswered),
+            Some(answer) => done_by_answer(
+                &self.kinds,
+                ports,
+                left,
+                read_answer(asked_for(lookup), answer),
+            ),
+        }
+    }
+
+    /// The number of the text of a state.
+    pub(crate) fn number(&self, text: &[u8]) -> usize
+        ensures { result ≡ number_in (texts_of_book self.now) text.now }
+    {
+        self.texts.number(text)
+    }
+
+    /// What is sent, by numbers. Refusal: out of memory.
+    pub(crate) fn numbered(
+        &self,
+        alloc: Global,
+        sends: &[u8],
+    ) -> Result<Vec<(u32, Message)>, AllocError>
+        requires { are_sends sends.now ≡ true }
+        ensures { IfOk result (λ list. list.items ≡ numbered (texts_of_book self.now) (sends_in sends.now)) }
+    {
+        let mut list = Vec::new(alloc);
+        let mut rest = sends;
+        'sends: while let Some((sent, after)) = next_sent(rest) {
+            let text = self.texts.number(sent.message);
+            list.push((sent.port, Message { text }))?;
+            rest = after;
+        }
+        Ok(list)
+    }
+
+    /// How far a node comes by its opening, which may then send and defer `most` messages. Refusal: out of memory.
+    pub(crate) fn opened(
+        &self,
+        alloc: Global,
+        v: u32,
+        ports: &[Port],
+        most: u32,
+    ) -> Result<State, AllocError>
+        ensures { IfOk result (λ state. state ≡ opened self.now most (told_in self.now (open_text v ports.now))) }
+    {
+        let question = open_question(alloc, v, ports)?;
+        match self.book.told(&question) {
+            None => Ok(stopped(Reason::Unanswered)),
+            Some((_, answer)) => Ok(self.opened_by(most, answer)),
+        }
+    }
+
+    /// The same by this answer.
+    fn opened_by(&self, most: u32, answer: &[u8]) -> State
+        ensures { result ≡ opened_by self.now most (saying Opening answer.now) }
+    {
+        match read_answer(Asked::Opening, answer) {
+            Some(Answer::State(state)) => State::Runs {
+                text: self.number(state),
+                asleep: says_asleep(state),
+                left: most,
+            },
+            Some(Answer::GivesUp(_)) => stopped(Reason::Fails(AnswerFault::GivesUp)),
+            _ => stopped(Reason::Fails(AnswerFault::Garbled)),
+        }
+    }
+
+    /// How many kinds of messages there are.
+    pub(crate) fn kinds(&self) -> usize
+        ensures { result ≡ kinds_many (kinds_of self.now) }
+    {
+        let count = self.names.len();
+        if count == 0 { 1 } else { count }
+    }
+
+    /// The kind of a message.
+    pub(crate) fn kind(&self, message: Message) -> usize
+        ensures { result ≡ kind_among (kinds_of self.now) (text_at (texts_of_book self.now) message.text) }
+    {
+        match self.names.place(kind_name(self.text(message.text))) {
+            Some(kind) => kind,
+            None => 0,
+        }
+    }
+}
+
+/// A node that has stopped at its opening.
+fn stopped(reason: Reason) -> State
+    ensures { result ≡ stopped_at None reason }
+{
+    State::Stopped(Stop {
+        asked: None,
+        reason,
+    })
+}
+
+/// What the question of a lookup asks for.
+fn asked_for(lookup: Lookup) -> Asked
+    ensures { result ≡ asks_for lookup }
+{
+    match lookup {
+        Lookup::Wake { node: _, state: _ } => Asked::Wake,
+        Lookup::Take {
+            node: _,
+            port: _,
+            message: _,
+            state: _,
+        } => Asked::Take,
+    }
+}
+
+/// The question what the first state of a node with these ports is. Refusal: out of memory.
+#[tactic(auto, unfolding(crate::specs::Questions::open_text))]
+pub fn open_question(alloc: Global, v: u32, ports: &[Port]) -> Result<Vec<u8>, AllocError>
+    ensures { IfOk result (λ question. question.items ≡ open_text v ports.now) }
+{
+    let mut text = Vec::new(alloc);
+    text.extend_from_slice(b"open ")?;
+    put_number(&mut text, u128::from(v))?;
+    put_keys(&mut text, ports)?;
+    Ok(text)
+}
+
+/// The keys of ports, a blank before each.
+#[tactic(auto, unfolding(crate::specs::Questions::key_behind_blank))]
+fn put_keys(text: &mut Vec<u8>, ports: &[Port]) -> Result<(), AllocError>
+    ensures { IfOk result (λ _. text.new.items ≡ text.old.items ++ flat_map key_behind_blank ports.now) }
+{
+    for port in ports {
+        text.extend_from_slice(b" ")?;
+        put_key(text, port.key)?;
+    }
+    Ok(())
+}
+
+/// The kinds of messages that the greeting of a book names; none where it has no greeting.
+fn greeted_kinds(alloc: Global, book: &Book) -> Result<Vec<u8>, AllocError>
+    ensures kinds { IfOk result (λ kinds. kinds.items ≡ kinds_of book.now) }
+    ensures readable { IfOk result (λ kinds. are_kinds kinds.items ≡ true) }
+{
+    let Some((_, answer)) = book.told(b"own 1") else {
+        return Ok(Vec::new(alloc));
+    };
+    match read_answer(Asked::Greeting, answer) {
+        Some(Answer::Greeting { name: _, kinds }) => Vec::from_slice(alloc, kinds),
+        _ => Ok(Vec::new(alloc)),
+    }
+}
+
+/// What stands before the first `(` of a message; all of it where there is none.
+fn kind_name(message: &[u8]) -> &[u8]
+    ensures { result.now ≡ kind_in message.now (cut_at 40 message.now) }
+{
+    match cut(message, b'(') {
+        Some((kind, _)) => kind,
+        None => message,
+    }
+}
