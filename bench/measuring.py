@@ -21,7 +21,7 @@ def build(name, *flags):
     os.makedirs(OUT, exist_ok=True)
     program = os.path.join(OUT, name)
     source = os.path.join(HERE, name + ".cpp")
-    sources = [source, os.path.join(HERE, "plain.h")]
+    sources = [source, *glob.glob(os.path.join(HERE, "plain*.h"))]
     if not os.path.exists(program) or os.path.getmtime(program) < max(map(os.path.getmtime, sources)):
         compiler = shutil.which("clang++") or "g++"
         subprocess.run([compiler, "-O2", "-std=c++17", *flags, "-o", program, source], check=True)

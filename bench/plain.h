@@ -60,6 +60,20 @@ static bool read_graph(Graph &graph, int file) {
     }
 }
 
+// Sorts keys, digit by digit from the last, and leaves each once.
+static inline void sort_keys(std::vector<Key> &keys) {
+    static const int digits[] = {0, 11, 32, 43, 64, 75, 86}; // of 11 bits: larger end, smaller end, weight
+    std::vector<Key> others(keys.size());
+    for (const int digit : digits) {
+        std::vector<uint32_t> starts(2049);
+        for (const Key key : keys) ++starts[(uint64_t(key >> digit) & 2047) + 1];
+        for (int value = 0; value < 2047; ++value) starts[value + 1] += starts[value];
+        for (const Key key : keys) others[starts[uint64_t(key >> digit) & 2047]++] = key;
+        keys.swap(others);
+    }
+    keys.erase(std::unique(keys.begin(), keys.end()), keys.end());
+}
+
 static uint32_t find(std::vector<uint32_t> &up, uint32_t node) {
     while (up[node] != node) node = up[node] = up[up[node]];
     return node;
@@ -82,7 +96,7 @@ static inline char *put_link(char *to, Key key) {
     return to;
 }
 
-static bool write_all(const char *from, const char *end) {
+static inline bool write_all(const char *from, const char *end) {
     while (from < end) {
         const ssize_t count = write(1, from, end - from);
         if (count <= 0) return false;

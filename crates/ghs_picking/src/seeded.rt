@@ -60,7 +60,7 @@ fn make_next<F: Follower>(
 {
     let mut rest = schedule.copy()?;
     let place = rest.pick(world.ready_count());
-    make(alloc, world, kept, world.ready_at(place))?;
+    make(alloc, world, kept, world.ready_placed(place))?;
     *schedule = rest;
     Ok(())
 }
