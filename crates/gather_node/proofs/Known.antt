@@ -1,5 +1,5 @@
 -- What came at ports and goes out there, port by port.
-use Rattle.std.proofs.Common.{◌≡◌, ℕ, ◌+◌, Option, Some, None, List, [], ◌∷◌, ◌++◌, get_or, refl, sym, ◌∙◌, ap, add-one, append_assoc, append-nil}
+use Rattle.std.proofs.Common.{◌≡◌, ℕ, ◌+◌, Option, Some, None, List, [], ◌∷◌, ◌++◌, get_or, sym, ◌∙◌, ap, add-one, append_assoc, append-nil}
 use Rattle.ghs_graph.specs.declared.key.Key.{Key}
 use Rattle.peer_machine.specs.Rules.{Outgoing}
 use Rattle.gather_node.specs.declared.message.Message.{Message}

@@ -1,5 +1,5 @@
 -- What holds of a node's lists.
-use Rattle.std.specs.Prelude.{◌≡◌, ℕ, ◌<◌, ◌^◌, Bool, Option, List, length}
+use Rattle.std.specs.Prelude.{◌≡◌, ◌<◌, ◌^◌, Bool, Option, List, length}
 use Rattle.ghs_graph.specs.declared.key.Key.{Key}
 
 -- as many places for links as keys, and few of them

@@ -1,5 +1,5 @@
 -- A node's state.
-use Rattle.std.specs.Prelude.{ℕ, zero, suc, ◌==◌, Bool, true, false, Option, None, Some, List, [], ◌∷◌, ◌++◌, length, map, replicate, slice_index_or, slice_set, nat_lt}
+use Rattle.std.specs.Prelude.{ℕ, zero, suc, ◌==◌, Bool, true, false, Option, None, Some, List, [], ◌++◌, length, map, replicate, slice_index_or, slice_set, nat_lt}
 use Rattle.ghs_graph.specs.declared.key.Key.{Key}
 use Rattle.ghs_graph.specs.declared.port.Port.{Port}
 use Rattle.gather_node.specs.declared.change.Change.{Change}

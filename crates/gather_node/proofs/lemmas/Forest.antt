@@ -1,16 +1,16 @@
 -- The forest of a list is the minimum spanning forest of the links in it, whatever their order.
-use Rattle.std.proofs.Common.{◌≡◌, ℕ, zero, suc, ◌+◌, ◌<◌, ◌≤◌, ◌⊎◌, inl, inr, ⊎_elim, Bool, true, false, not, ◌==◌, ◌&&◌, ◌||◌, List, [], ◌∷◌, length, cond, get_or, refl, sym, ◌∙◌, ap, subst, arith}
+use Rattle.std.proofs.Common.{◌≡◌, suc, ◌⊎◌, inl, inr, ⊎_elim, Bool, true, false, ◌||◌, List, [], ◌∷◌, cond, get_or, refl, subst, arith}
 use Rattle.std.specs.Prelude.{filter, ◌↔◌}
-use Rattle.std.specs.List.{All, AllPairs, Contains}
-use Rattle.std.proofs.lemmas.Bool.{cases_Bool, both_ways, and_parts, and_from, eqb-true}
+use Rattle.std.specs.List.{Contains}
+use Rattle.std.proofs.lemmas.Bool.{and_parts, eqb-true}
 use Rattle.std.proofs.lemmas.List.Elements.{Contains-get_or}
 use Rattle.std.proofs.lemmas.List.Kept.{AllPairs-cons}
 use Rattle.std.proofs.lemmas.Bool.Decides.{nat_tests}
 use Rattle.ghs_graph.specs.declared.key.Key.{Key}
-use Rattle.ghs_graph.specs.Key.{key_lt, no_key}
+use Rattle.ghs_graph.specs.Key.{key_lt}
 use Rattle.ghs_graph.specs.Links.{IsRising, IsTree}
 use Rattle.ghs_graph.proofs.lemmas.Computing.{tree_is}
-use Rattle.ghs_graph.proofs.lemmas.Keys.{lt_irreflexive, lt_asymmetric, same_keys, tree_is_same}
+use Rattle.ghs_graph.proofs.lemmas.Keys.{same_keys, tree_is_same}
 use Rattle.ghs_graph.proofs.lemmas.Members.{nothing_in, first_in, later_in, in_cases, in_filter, filter_has}
 use Rattle.peer_network.proofs.lemmas.Graphs.{same_key}
 use Rattle.gather_node.specs.Forest.{forest, has, in_order, insert, is_link, is_same, links_of}

@@ -1,4 +1,4 @@
-use Rattle.std.proofs.Common.{◌≡◌, ◌∙◌, ◌&&◌, List, get_or, sym, ap, rules}
+use Rattle.std.proofs.Common.{◌∙◌, ◌&&◌, List, get_or, sym, ap, rules}
 use Rattle.std.proofs.lemmas.List.{get_or_default}
 use Rattle.ghs_graph.specs.declared.key.Key.{Key}
 use Rattle.ghs_graph.specs.Key.{no_key}

@@ -1,4 +1,4 @@
-use Rattle.std.proofs.Common.{◌≡◌, rules}
+use Rattle.std.proofs.Common.{rules}
 use Rattle.gather_node.specs.State.{after}
 use Rattle.gather_node.proofs.Known.{known_some, known_none}
 use Rattle.gather_node.proofs.react.known.Goals as goal

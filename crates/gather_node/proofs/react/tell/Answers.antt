@@ -1,4 +1,4 @@
-use Rattle.std.proofs.Common.{◌≡◌, rules}
+use Rattle.std.proofs.Common.{rules}
 use Rattle.gather_node.specs.State.{after}
 use Rattle.gather_node.proofs.Known.{trees_some, trees_none}
 use Rattle.gather_node.proofs.react.tell.Goals as goal
