@@ -2,3 +2,4 @@
 pub mod lemmas
 mod Orders
 mod Known
+mod Examples

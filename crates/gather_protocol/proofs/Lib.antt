@@ -1,4 +1,5 @@
 -- Serves the proof: nothing here has to be believed. lemmas is what proofs above this crate may use.
+pub mod lemmas
 mod Accounts
 mod Turns
 mod Sends
@@ -16,3 +17,4 @@ mod Bound
 mod Awake
 mod Silence
 mod Bypass
+mod Found

@@ -1,6 +1,6 @@
 -- Every net of a run keeps the tree that is told.
 use Rattle.std.proofs.Common.{◌≡◌, ◌≢◌, ℕ, zero, suc, ◌+◌, ◌<◌, ◌≤◌, ◌==◌, inl, inr, Bool, true, false, Option, Some, None, List, [], ◌∷◌, ◌++◌, length, get_or, set, cond, refl, sym, ◌∙◌, ap, subst, ⊎_elim, arith, append-nil, eq-eqb, length-append}
-use Rattle.std.specs.Prelude.{filter, is_none}
+use Rattle.std.specs.Prelude.{filter, is_none, replicate}
 use Rattle.std.specs.List.{All}
 use Rattle.std.proofs.lemmas.Bool.{both_ways, true≢false}
 use Rattle.std.proofs.lemmas.List.{nil_from_length}
@@ -24,12 +24,12 @@ use Rattle.gather_node.specs.declared.message.Message.TheVariants.{Explore, Back
 use Rattle.gather_node.specs.Forest.{forest}
 use Rattle.gather_node.specs.Gather.{gather}
 use Rattle.gather_node.specs.Reaction.{closed, due, explores, hears, in_wave, joins_wave, outcome, told}
-use Rattle.gather_node.specs.State.{State, degree, is_that, known}
+use Rattle.gather_node.specs.State.{State, degree, is_that, known, links_to, marks}
 use Rattle.gather_protocol.proofs.Accounts.{Account, on_port, taken, with_heard}
 use Rattle.gather_protocol.proofs.Cases.{degree_is}
 use Rattle.gather_protocol.proofs.Done.{Done, all_done, done_awaits, done_wave, next_joined}
 use Rattle.gather_protocol.proofs.Events.{awaits_some, called, event_waves, opening_waves, that_is}
-use Rattle.gather_protocol.proofs.Heard.{SentAs, WasAsked, WasBack, append_some, sent_as, sent_few, some_long}
+use Rattle.gather_protocol.proofs.Heard.{SentAs, WasAsked, WasBack, sent_as, sent_few, some_long}
 use Rattle.gather_protocol.proofs.Sends.{SameStand, asked_no_tree, closed_stand, closed_trees, explored_on, is_of, is_tree, leads, sent_on, told_on, tree_of, tree_of_all}
 use Rattle.gather_protocol.proofs.Trees.{HasLeader, Leads, Trees, told_once, told_over, tree_turned}
 use Rattle.gather_protocol.proofs.Turns.{Turn, by_turn, told_as, woke_as}
@@ -42,6 +42,12 @@ closed_halted : (n : State) (x a : ℕ) (parent : Option ℕ) (ss : Outgoing Mes
 closed_halted n x (suc k) parent ss = refl
 closed_halted n x zero (Some q) ss = refl
 closed_halted n x zero None ss = refl
+
+closed_marks : (n : State) (x a : ℕ) (parent : Option ℕ) (ss : Outgoing Message) →
+    (closed n x a parent ss).state.branches ≡ cond (leads a parent) (marks (forest (known n)) n.keys) n.branches
+closed_marks n x (suc k) parent ss = refl
+closed_marks n x zero (Some q) ss = refl
+closed_marks n x zero None ss = refl
 
 cond_same : (b : Bool) → cond b true false ≡ b
 cond_same true = refl
@@ -151,7 +157,7 @@ module _ (g : Network) (may : ℕ → Bool) (wired : IsWired g) (w : Net State M
     own_parent = sym ((i.nodes v).now led.0 own_wave).parent ∙ that_is ((i.past v).parent led.0) p back.1
 
     unheard_of : (b : Bool) → (w.node v).head.halted ≡ b → b ≡ false
-    unheard_of true e = absurd (t.told v p e own_parent untaken)
+    unheard_of true e = absurd (let z : Tree (t.tree v) ∷ [] ≡ [] = sym (t.told v p e own_parent) ∙ untaken in cc)
     unheard_of false e = refl
 
     pub not_halted : (w.node v).head.halted ≡ false
@@ -179,14 +185,14 @@ module _ (g : Network) (may : ℕ → Bool) (wired : IsWired g) (w : Net State M
       idles on =
           tree_turned g wired w w1 t v net (outcome n []) on (t.tree v) t.taken nodes account
           (λ j at. sym (append-nil (told_over (t.tree v) (w.node v) j))) (λ x y. (x, y))
-          (λ h. let l = t.leader v h in (l.0, l.1, inr l.2)) (λ h. h) (λ p h e. t.up v p h e) (λ u q at ne. inl ne) (λ u q ne. ne)
-          (λ p h e. t.told v p h e) (λ x e f h. t.leads v x e f h) (omega (arith, same))
+          (λ h. let l = t.leader v h in (l.0, l.1, inr l.2)) (λ h. h) (λ p h e. t.up v p h e) (λ u q at ne. inl ne) (λ u q ne. refl)
+          (λ p h e. t.told v p h e) (λ x e f h. t.leads v x e f h) (omega (arith, same)) (t.led v) (t.marked v) (t.unmarked v)
 
       -- it joins a wave or hears an answer
       module _ (n' : State) (y k : ℕ) (par : Option ℕ) (ss : Outgoing Message) (act : Active) (halted : n'.head.halted ≡ n.head.halted)
           (wave : n'.head.wave ≡ Some y) (parent : n'.head.parent ≡ par) (awaits : n'.head.awaits ≡ k)
           (ports : degree n' ≡ length (g.ports v)) (none : (j : ℕ) → At g v j → ◌≡◌ {A = List Message} (filter is_tree (on_port j ss)) [])
-          (own : par ≡ None → y ≡ v) where
+          (own : par ≡ None → y ≡ v) (branches : n'.branches ≡ n.branches) where
         abbrev pub o : Outcome State Message
         o = closed n' y k par ss
 
@@ -201,6 +207,11 @@ module _ (g : Network) (may : ℕ → Bool) (wired : IsWired g) (w : Net State M
 
         stand : SameStand o.state n'
         stand = closed_stand n' y k par ss
+
+        knows_same : known o.state ≡ known n'
+        knows_same =
+            ap (λ (ks : List Key). ks ++ links_to (length ks) o.state.brought) stand.keys
+            ∙ ap (λ (bs : List (Option (List Key))). n'.keys ++ links_to (degree n') bs) stand.brought
 
         parts : o.state.head.halted ≡ true → (k ≡ 0) × (par ≡ None)
         parts h = leads_parts k par (sym now ∙ h)
@@ -223,7 +234,7 @@ module _ (g : Network) (may : ℕ → Bool) (wired : IsWired g) (w : Net State M
             tree_turned g wired w w1 t v net o on tree t.taken nodes account sends
             (λ e f. absurd (act v (leads_done v (record { wave = e; awaits = f })) (in_wave_of v v e)))
             (λ h. (y, stand.wave ∙ wave, inl (own (parts h).1, stand.awaits ∙ awaits ∙ (parts h).0)))
-            (λ h. absurd (both_ways (w.node v).head.halted was h)) (λ p h e. absurd (no_parent h p e)) (λ u q at ne. inl ne) (λ u q ne. ne)
+            (λ h. absurd (both_ways (w.node v).head.halted was h)) (λ p h e. absurd (no_parent h p e)) (λ u q at ne. inl ne) (λ u q ne. refl)
             (λ p h e. absurd (no_parent h p e))
             (λ x e f h.
             now ∙ ap (λ b. leads b par) (sym awaits ∙ sym stand.awaits ∙ h) ∙ ap (leads 0) (sym parent ∙ sym stand.parent ∙ f))
@@ -232,6 +243,14 @@ module _ (g : Network) (may : ℕ → Bool) (wired : IsWired g) (w : Net State M
             let c = not_told (w.node v).head.halted (w.node v).head.parent (λ h. absurd (both_ways (w.node v).head.halted was h)) in
             omega (arith, b, c, same)
             )
+            (λ h e. ap forest (sym knows_same))
+            (λ h.
+            closed_marks n' y k par ss ∙ ap (λ b. cond b (marks tree n'.keys) n'.branches) (sym now ∙ h)
+            ∙ ap (marks tree) (sym stand.keys))
+            (λ j h.
+            ap (λ (b : List Bool). get_or b j false)
+            (closed_marks n' y k par ss ∙ ap (λ b. cond b (marks tree n'.keys) n'.branches) (sym now ∙ h) ∙ branches)
+            ∙ t.unmarked v j was)
 
     -- a node wakes
     pub wakes_trees : (o : Outcome State Message) → are_on_ports gather g v o.sends ≡ true → n.head.wave ≡ None → joins_wave n n.number None ≡ o →
@@ -245,7 +264,7 @@ module _ (g : Network) (may : ℕ → Bool) (wired : IsWired g) (w : Net State M
         let d = degree_is g v n a.fits in
         let l = at.port in
         ap (filter is_tree) (explored_on n.number (degree n) j None (omega (arith, d, l))) ∙ asked_no_tree n.number None j)
-        (λ e. a.fits.number)
+        (λ e. a.fits.number) refl
         (subst (λ (b : Outcome State Message). are_on_ports gather g v b.sends ≡ true) (sym is) on))
 
     module _ (p : ℕ) (m : Message) (ms : List Message) (at : At g v p) (queue : w.queue v p ≡ m ∷ ms) where
@@ -300,7 +319,7 @@ module _ (g : Network) (may : ℕ → Bool) (wired : IsWired g) (w : Net State M
           n.head.parent []
           (λ y d j. let z = done_awaits g may wired w i v y d j in let q : ◌≡◌ {A = ℕ} 0 (suc k) = sym z ∙ e in cc) refl wave refl refl
           (degree_is g v n a.fits) (λ j here. refl)
-          (λ q. sym (i.led.first v x (in_wave_of v x wave) ((a.now x wave).parent ∙ q))) on
+          (λ q. sym (i.led.first v x (in_wave_of v x wave) ((a.now x wave).parent ∙ q))) refl on
 
       -- it joins the wave of an Explore
       enters_trees : (x : ℕ) → Explore x ≡ m → ((y : ℕ) → n.head.wave ≡ Some y → x < y) →
@@ -314,7 +333,7 @@ module _ (g : Network) (may : ℕ → Bool) (wired : IsWired g) (w : Net State M
           let d = degree_is g v n a.fits in
           let l = here.port in
           ap (filter is_tree) (explored_on x (degree n) j (Some p) (omega (arith, d, l))) ∙ asked_no_tree x (Some p) j)
-          (λ q. let z : ◌≡◌ {A = Option ℕ} None (Some p) = sym q in cc) on
+          (λ q. let z : ◌≡◌ {A = Option ℕ} None (Some p) = sym q in cc) refl on
         where
           not_below : (y : ℕ) → Done g may wired w i y y → (i.past v).joined y ≡ true → (i.past u).joined x ≡ true → ⊥
           not_below y d j up =
@@ -336,20 +355,11 @@ module _ (g : Network) (may : ℕ → Bool) (wired : IsWired g) (w : Net State M
             first : filter is_tree (m ∷ ms) ≡ m ∷ filter is_tree ms
             first = rw tree_yes refl
 
-        grown : (b q : ℕ) → t.taken b q ≢ [] → with_heard is_tree t.taken v p m b q ≢ []
-        grown b q ne = ⊎_elim
-            (λ z c.
-            append_some (t.taken v p) (filter is_tree (m ∷ [])) (subst (λ x. t.taken x p ≢ []) z.0 (subst (λ x. t.taken b x ≢ []) z.1 ne))
-            (sym (put_at_hit t.taken v p b q (t.taken v p ++ filter is_tree (m ∷ [])) z.0 z.1) ∙ c))
-            (λ away c. ne (sym (put_at_miss t.taken v p b q (t.taken v p ++ filter is_tree (m ∷ [])) away) ∙ c)) (one_place v p b q)
-
-        told_now : with_heard is_tree t.taken v p m v p ≢ []
-        told_now z =
-            let e = ap length (sym (put_at_same t.taken v p (t.taken v p ++ filter is_tree (m ∷ []))) ∙ z) in
-            let l = length-append (t.taken v p) (filter is_tree (m ∷ [])) in
-            let one : length (filter is_tree (m ∷ [])) ≡ 1 = rw tree_yes refl in
-            let c : ◌≡◌ {A = ℕ} (length {A = Message} []) 0 = refl in
-            absurd (omega (arith, e, l, one, c))
+        told_now : with_heard is_tree t.taken v p m v p ≡ Tree ks ∷ []
+        told_now =
+            put_at_same t.taken v p (t.taken v p ++ filter is_tree (m ∷ []))
+            ∙ ap (λ (l : List Message). l ++ filter is_tree (m ∷ [])) (untaken v p at some)
+            ∙ ap (λ (b : Message). filter is_tree (b ∷ [])) (sym is)
 
         pub learns_trees : are_on_ports gather g v (told n ks []).sends ≡ true → Trees g (reacted gather g v (told n ks []) w1)
         learns_trees on =
@@ -363,8 +373,9 @@ module _ (g : Network) (may : ℕ → Bool) (wired : IsWired g) (w : Net State M
             (λ q h e. subst (λ b. (w.node (far g v b)).head.halted ≡ true) (same_Some _ _ (sym (own_parent v p at some) ∙ e)) (teller v p at some).0)
             (λ b q here ne. ⊎_elim (λ z. inr (z.0, refl))
             (λ away. inl (λ c. ne (put_at_miss t.taken v p b q (t.taken v p ++ filter is_tree (m ∷ [])) away ∙ c))) (one_place v p b q))
-            grown
-            (λ q h e. subst (λ b. with_heard is_tree t.taken v p m v b ≢ []) (same_Some _ _ (sym (own_parent v p at some) ∙ e)) told_now)
+            (λ b q ne. put_at_miss t.taken v p b q (t.taken v p ++ filter is_tree (m ∷ [])) (λ z. ne z.0))
+            (λ q h e.
+            subst (λ b. with_heard is_tree t.taken v p m v b ≡ Tree ks ∷ []) (same_Some _ _ (sym (own_parent v p at some) ∙ e)) told_now)
             (λ x e f h. refl)
             (
             let c = take_counts gather g v p m ms w 2 in
@@ -373,6 +384,8 @@ module _ (g : Network) (may : ℕ → Bool) (wired : IsWired g) (w : Net State M
             let new : ◌≡◌ {A = ℕ} (cond (is_none n.head.parent) 0 1) 1 = ap (λ (o : Option ℕ). cond (is_none o) 0 1) (own_parent v p at some) in
             omega (arith, c, one, old, new)
             )
+            (λ h e. let z : ◌≡◌ {A = Option ℕ} None (Some p) = sym e ∙ own_parent v p at some in cc) (λ h. refl)
+            (λ j h. absurd (true≢false h))
 
       pub takes_trees : (o : Outcome State Message) → are_on_ports gather g v o.sends ≡ true → Turn n p m o → Trees g (reacted gather g v o w1)
       takes_trees o on k =
@@ -398,6 +411,11 @@ module _ (g : Network) (may : ℕ → Bool) (wired : IsWired g) where
   event_trees w _ e i t (Took v p m ms o at q h on) =
       takes_trees g may wired w i t v (record { some = at.some; node = at.node }) p m ms at q o on (told_as (w.node v) p m o h)
 
+  none : (n j : ℕ) → get_or (replicate n false) j false ≡ false
+  none zero j = refl
+  none (suc n) zero = refl
+  none (suc n) (suc j) = none n j
+
   pub opening_trees : Trees g (opening gather g)
   opening_trees = record {
     tree = λ v. [];
@@ -407,6 +425,9 @@ module _ (g : Network) (may : ℕ → Bool) (wired : IsWired g) where
     up = λ v p h e. absurd (true≢false (sym h));
     takes = λ v p at ne. absurd (ne refl);
     told = λ v p h e. absurd (true≢false (sym h));
+    led = λ v h e. absurd (true≢false (sym h));
+    marked = λ v h. absurd (true≢false (sym h));
+    unmarked = λ v j h. none (length (g.ports v)) j;
     leads = λ v x e f h. cc;
     consumed = sym (sum_none g.count (λ k. 0) (λ k lt. refl));
   }

@@ -1,5 +1,5 @@
 -- What every net of a run keeps of the tree that is told, and that an event keeps it, if it keeps it at its own node.
-use Rattle.std.proofs.Common.{◌≡◌, ◌≢◌, ℕ, suc, ◌+◌, ◌⊎◌, inl, inr, true, Some, None, List, [], ◌++◌, get_or, cond, refl, sym, ◌∙◌, ap, subst, ⊎_elim, arith}
+use Rattle.std.proofs.Common.{◌≡◌, ◌≢◌, ℕ, suc, ◌+◌, ◌⊎◌, inl, inr, true, false, Some, None, List, [], ◌∷◌, ◌++◌, get_or, cond, refl, sym, ◌∙◌, ap, subst, ⊎_elim, arith}
 use Rattle.std.specs.Prelude.{filter, is_none}
 use Rattle.std.proofs.lemmas.Bool.{cases_eq}
 use Rattle.ghs_graph.specs.declared.key.Key.{Key}
@@ -12,8 +12,10 @@ use Rattle.peer_machine.specs.Rules.{Outcome}
 use Rattle.peer_machine.specs.Net.{Net, put, are_on_ports, reacted}
 use Rattle.peer_machine.proofs.lemmas.Sends.{node_here, node_there, consumed_now}
 use Rattle.gather_node.specs.declared.message.Message.{Message}
+use Rattle.gather_node.specs.declared.message.Message.TheVariants.{Tree}
+use Rattle.gather_node.specs.Forest.{forest}
 use Rattle.gather_node.specs.Gather.{gather}
-use Rattle.gather_node.specs.State.{State}
+use Rattle.gather_node.specs.State.{State, known, marks}
 use Rattle.gather_protocol.proofs.Accounts.{Account, on_port, still}
 use Rattle.gather_protocol.proofs.Sends.{is_tree, tree_of}
 
@@ -40,7 +42,10 @@ pub record Trees (g : Network) (w : Net State Message) : Type 0 where
   pub leader : (v : ℕ) → (w.node v).head.halted ≡ true → HasLeader w v
   pub up : (v p : ℕ) → (w.node v).head.halted ≡ true → (w.node v).head.parent ≡ Some p → (w.node (far g v p)).head.halted ≡ true
   pub takes : (v p : ℕ) → At g v p → taken v p ≢ [] → (w.node v).head.halted ≡ true
-  pub told : (v p : ℕ) → (w.node v).head.halted ≡ true → (w.node v).head.parent ≡ Some p → taken v p ≢ []
+  pub told : (v p : ℕ) → (w.node v).head.halted ≡ true → (w.node v).head.parent ≡ Some p → taken v p ≡ Tree (tree v) ∷ []
+  pub led : (v : ℕ) → (w.node v).head.halted ≡ true → (w.node v).head.parent ≡ None → tree v ≡ forest (known (w.node v))
+  pub marked : (v : ℕ) → (w.node v).head.halted ≡ true → (w.node v).branches ≡ marks (tree v) (w.node v).keys
+  pub unmarked : (v j : ℕ) → (w.node v).head.halted ≡ false → get_or (w.node v).branches j false ≡ false
   pub leads : (v x : ℕ) → (w.node v).head.wave ≡ Some x → (w.node v).head.parent ≡ None → (w.node v).head.awaits ≡ 0 →
       (w.node v).head.halted ≡ true
   pub consumed : w.consumed 2 ≡ sum_over_nodes g (λ v. told_once (w.node v))
@@ -86,11 +91,14 @@ module _ (g : Network) (wired : IsWired g) (w w1 : Net State Message) (t : Trees
       ((w.node v).head.halted ≡ true → o.state.head.halted ≡ true) →
       ((p : ℕ) → o.state.head.halted ≡ true → o.state.head.parent ≡ Some p → (w.node (far g v p)).head.halted ≡ true) →
       ((u q : ℕ) → At g u q → taken u q ≢ [] → (t.taken u q ≢ []) ⊎ ((u ≡ v) × (o.state.head.halted ≡ true))) →
-      ((u q : ℕ) → t.taken u q ≢ [] → taken u q ≢ []) →
-      ((p : ℕ) → o.state.head.halted ≡ true → o.state.head.parent ≡ Some p → taken v p ≢ []) →
+      ((u q : ℕ) → u ≢ v → taken u q ≡ t.taken u q) →
+      ((p : ℕ) → o.state.head.halted ≡ true → o.state.head.parent ≡ Some p → taken v p ≡ Tree tree ∷ []) →
       ((x : ℕ) → o.state.head.wave ≡ Some x → o.state.head.parent ≡ None → o.state.head.awaits ≡ 0 → o.state.head.halted ≡ true) →
-      w1.consumed 2 + told_once (w.node v) ≡ w.consumed 2 + told_once o.state → Trees g next
-  tree_turned account sends keeps leader_v mono up_v takes_v more told_v leads_v count = record {
+      w1.consumed 2 + told_once (w.node v) ≡ w.consumed 2 + told_once o.state →
+      (o.state.head.halted ≡ true → o.state.head.parent ≡ None → tree ≡ forest (known o.state)) →
+      (o.state.head.halted ≡ true → o.state.branches ≡ marks tree o.state.keys) →
+      ((j : ℕ) → o.state.head.halted ≡ false → get_or o.state.branches j false ≡ false) → Trees g next
+  tree_turned account sends keeps leader_v mono up_v takes_v elsewhere told_v leads_v count led_v marked_v unmarked_v = record {
     tree = put t.tree v tree;
     taken = taken;
     over =
@@ -113,8 +121,17 @@ module _ (g : Network) (wired : IsWired g) (w w1 : Net State Message) (t : Trees
         (λ a. still_halted u (t.takes u q at a))
         (λ b. ap (λ (n : State). n.head.halted) (here u b.0) ∙ b.1) (takes_v u q at ne);
     told =
-        each (λ u n. (p : ℕ) → n.head.halted ≡ true → n.head.parent ≡ Some p → taken u p ≢ []) told_v
-        (λ u ne p h e. more u p (t.told u p h e));
+        each (λ u n. (p : ℕ) → n.head.halted ≡ true → n.head.parent ≡ Some p → taken u p ≡ Tree (put t.tree v tree u) ∷ [])
+        (λ p h e. told_v p h e ∙ ap (λ (k : List Key). Tree k ∷ []) (sym (put_same t.tree v tree)))
+        (λ u ne p h e. elsewhere u p ne ∙ t.told u p h e ∙ ap (λ (k : List Key). Tree k ∷ []) (sym (put_other t.tree v u tree ne)));
+    led =
+        each (λ u n. n.head.halted ≡ true → n.head.parent ≡ None → put t.tree v tree u ≡ forest (known n))
+        (λ h e. put_same t.tree v tree ∙ led_v h e) (λ u ne h e. put_other t.tree v u tree ne ∙ t.led u h e);
+    marked =
+        each (λ u n. n.head.halted ≡ true → n.branches ≡ marks (put t.tree v tree u) n.keys)
+        (λ h. marked_v h ∙ ap (λ (k : List Key). marks k o.state.keys) (sym (put_same t.tree v tree)))
+        (λ u ne h. t.marked u h ∙ ap (λ (k : List Key). marks k (w.node u).keys) (sym (put_other t.tree v u tree ne)));
+    unmarked = each (λ u n. (j : ℕ) → n.head.halted ≡ false → get_or n.branches j false ≡ false) unmarked_v (λ u ne. t.unmarked u);
     leads =
         each (λ u n. (x : ℕ) → n.head.wave ≡ Some x → n.head.parent ≡ None → n.head.awaits ≡ 0 → n.head.halted ≡ true) leads_v
         (λ u ne. t.leads u);

@@ -1,15 +1,17 @@
 -- What holds of Gather in every run of every graph, as one fact a law.
-use Rattle.std.specs.Prelude.{◌≡◌, ℕ, ◌+◌, ◌-◌, ◌*◌, ◌==◌, ◌≤◌, Bool, true, false, List, length, map}
+use Rattle.std.specs.Prelude.{◌≡◌, ℕ, ◌+◌, ◌-◌, ◌*◌, ◌==◌, ◌≤◌, Bool, true, false, ◌↔◌, List, length, map, slice_index_or}
 use Rattle.std.specs.List.{All}
 use Rattle.ghs_graph.specs.declared.port.Port.{Port}
 use Rattle.ghs_graph.specs.Graph.{Shape, IsGraph}
+use Rattle.ghs_graph.specs.Links.{InTree, IsTree}
 use Rattle.peer_network.specs.declared.event.Event.{Event}
 use Rattle.peer_network.specs.Events.{MayWake}
-use Rattle.peer_network.specs.Network.{Network, network_of, InNetwork}
+use Rattle.peer_network.specs.Network.{Network, network_of, InNetwork, At, port_at}
 use Rattle.peer_machine.specs.Net.{Net}
 use Rattle.peer_machine.specs.Run.{IsAfter, IsNetOf, IsRun}
 use Rattle.peer_machine.specs.Ledger.{in_all}
-use Rattle.peer_machine.specs.Ends.{IsSilent, SilenceWakesAll}
+use Rattle.peer_machine.specs.Branches.{BranchesAreFound}
+use Rattle.peer_machine.specs.Ends.{IsSilent, SilenceIsEnd, SilenceWakesAll}
 use Rattle.peer_machine.specs.Protocol.{HasRules, IsBoundedBy, StaysAwake}
 use Rattle.peer_machine.specs.Rules.{HasKinds, NeverDefers}
 use Rattle.gather_node.specs.declared.message.Message.{Message}
@@ -72,3 +74,30 @@ SilenceHalts =
 -- and nobody sleeps in its component
 abbrev pub SilenceWakes : Type 0
 SilenceWakes = SilenceWakesAll gather
+
+-- the port is marked a Branch
+abbrev pub marks_branch : State → ℕ → Bool
+marks_branch n p = slice_index_or n.branches p false
+
+-- at every moment: who has halted has marked those of its links that are of the minimum spanning forest, and no others
+abbrev pub HaltedMarkTrees : Type 0
+HaltedMarkTrees =
+    (g : Shape) (w : Net State Message) → IsNetOf gather g w → (v p : ℕ) → At (network_of g) v p → (w.node v).head.halted ≡ true →
+    (marks_branch (w.node v) p ≡ true) ↔ InTree g.keys (port_at (network_of g) v p).key
+
+-- and who has not has marked none
+abbrev pub OthersMarkNone : Type 0
+OthersMarkNone =
+    (g : Shape) (w : Net State Message) → IsNetOf gather g w → (v p : ℕ) → (w.node v).head.halted ≡ false → marks_branch (w.node v) p ≡ false
+
+-- a run has ended where no message waits and each node has halted
+abbrev pub HasEnded : Shape → Net State Message → Type 0
+HasEnded g w = IsSilent (network_of g) w × ((v : ℕ) → InNetwork (network_of g) v → (w.node v).head.halted ≡ true)
+
+-- which is so just in silence with all awake
+abbrev pub SilenceEnds : Type 0
+SilenceEnds = SilenceIsEnd gather HasEnded
+
+-- then the Branch links are the minimum spanning forest
+abbrev pub BranchesAreTree : Type 0
+BranchesAreTree = BranchesAreFound gather HasEnded marks_branch (λ g ks. IsTree g.keys ks)

@@ -1,7 +1,7 @@
 //! What holds in every run of every graph, however its events interleave and whoever wakes. Each law is a function that does
 //! nothing.
 ghost use Rattle.gather_protocol.specs.Bound.{bound_of};
-ghost use Rattle.gather_protocol.specs.Laws.{EventsHaveRules, MessagesHaveKinds, NodesKeepPorts, NodesStayAwake, NoneIsDeferred, OneSends, RunsAreShort, SendsWithinBound, SendsWithinWakers, SilenceHalts, SilenceWakes};
+ghost use Rattle.gather_protocol.specs.Laws.{BranchesAreTree, EventsHaveRules, HaltedMarkTrees, MessagesHaveKinds, NodesKeepPorts, NodesStayAwake, NoneIsDeferred, OneSends, OthersMarkNone, RunsAreShort, SendsWithinBound, SendsWithinWakers, SilenceEnds, SilenceHalts, SilenceWakes};
 ghost use Rattle.peer_machine.specs.Protocol.{FitsGraphs};
 
 /// Each node keeps its number and the keys of its ports.
@@ -59,4 +59,18 @@ pub fn law_short_runs()
 pub fn law_silence()
     ensures halts { SilenceHalts }
     ensures wakes { SilenceWakes }
+{}
+
+/// At every moment: who has halted has marked those of its links that are of the minimum spanning forest, and no others; who
+/// has not has marked none.
+pub fn law_marks()
+    ensures halted { HaltedMarkTrees }
+    ensures others { OthersMarkNone }
+{}
+
+/// A run has ended, where no message waits and each node has halted, just in silence with all awake. Then the Branch links are
+/// the minimum spanning forest.
+pub fn law_end()
+    ensures silence { SilenceEnds }
+    ensures tree { BranchesAreTree }
 {}
