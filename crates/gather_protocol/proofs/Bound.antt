@@ -174,8 +174,8 @@ module _ (g : Network) (may : ℕ → Bool) (wired : IsWired g) (w : Net State M
           let b = sum_few g.count (λ x. 1) (λ x. omega arith) in
           omega (arith, a, b)
 
-  pub trees_few : 1 ≤ g.count → w.sent 2 ≡ w.consumed 2 + waiting_of gather g w 2 → suc (w.sent 2) ≤ g.count
-  trees_few some balance =
+  pub trees_by_parents : w.sent 2 ≡ w.consumed 2 + waiting_of gather g w 2 → w.sent 2 ≤ sum_over_nodes g (λ v. has_parent (w.node v))
+  trees_by_parents balance =
       let a = t.consumed in
       let b = sum_add g.count (λ k. told_once (w.node (suc k)))
       (λ k. sum_below (length (g.ports (suc k))) (λ p. of_kind gather 2 (w.queue (suc k) p))) in
@@ -183,8 +183,10 @@ module _ (g : Network) (may : ℕ → Bool) (wired : IsWired g) (w : Net State M
       sum_most g.count (λ k. told_once (w.node (suc k)) + sum_below (length (g.ports (suc k))) (λ p. of_kind gather 2 (w.queue (suc k) p)))
       (λ k. has_parent (w.node (suc k)))
       (λ k lt. at_node (suc k) (record { some = omega arith; node = omega (arith, lt) })) in
-      let d = parents_few some in
-      omega (arith, a, b, c, d, balance)
+      omega (arith, a, b, c, balance)
+
+  pub trees_few : 1 ≤ g.count → w.sent 2 ≡ w.consumed 2 + waiting_of gather g w 2 → suc (w.sent 2) ≤ g.count
+  trees_few some balance = let a = trees_by_parents balance in let d = parents_few some in omega (arith, a, d)
 
 -- what a run sends in which only some nodes wake by themselves
 pub sends_few : (g : Shape) (may : ℕ → Bool) (es : List Event) (w : Net State Message) → IsGraph g → All (MayWake may) es →

@@ -14,6 +14,7 @@ mod Done
 mod Trees
 mod TreeEvents
 mod Bound
+mod Pieces
 mod Awake
 mod Silence
 mod Bypass

@@ -2,6 +2,7 @@
 use Rattle.std.specs.Prelude.{◌≡◌, ℕ, ◌+◌, ◌-◌, ◌*◌, ◌==◌, ◌≤◌, Bool, true, false, ◌↔◌, List, length, map, slice_index_or}
 use Rattle.std.specs.List.{All}
 use Rattle.ghs_graph.specs.declared.port.Port.{Port}
+use Rattle.ghs_graph.specs.Components.{HasComponents}
 use Rattle.ghs_graph.specs.Graph.{Shape, IsGraph}
 use Rattle.ghs_graph.specs.Links.{InTree, IsTree}
 use Rattle.peer_network.specs.declared.event.Event.{Event}
@@ -49,6 +50,13 @@ abbrev pub SendsWithinWakers : Type 0
 SendsWithinWakers =
     (g : Shape) (may : ℕ → Bool) (es : List Event) (w : Net State Message) → IsGraph g → All (MayWake may) es →
     IsAfter gather (network_of g) es w → in_all gather w.sent ≤ bound_by g (wakers_in (network_of g) may)
+
+-- and in several pieces as many fewer as there are more of them
+abbrev pub SendsWithinPieces : Type 0
+SendsWithinPieces =
+    (g : Shape) (pieces : ℕ) (may : ℕ → Bool) (es : List Event) (w : Net State Message) → IsGraph g → HasComponents g pieces →
+    All (MayWake may) es → IsAfter gather (network_of g) es w →
+    in_all gather w.sent + pieces ≤ 2 * (length g.keys * wakers_in (network_of g) may) + g.nodes
 
 -- where one node does
 abbrev pub OneSends : Type 0

@@ -1,7 +1,7 @@
 //! What holds in every run of every graph, however its events interleave and whoever wakes. Each law is a function that does
 //! nothing.
 ghost use Rattle.gather_protocol.specs.Bound.{bound_of};
-ghost use Rattle.gather_protocol.specs.Laws.{BranchesAreTree, EventsHaveRules, HaltedMarkTrees, MessagesHaveKinds, NodesKeepPorts, NodesStayAwake, NoneIsDeferred, OneSends, OthersMarkNone, RunsAreShort, SendsWithinBound, SendsWithinWakers, SilenceEnds, SilenceHalts, SilenceWakes};
+ghost use Rattle.gather_protocol.specs.Laws.{BranchesAreTree, EventsHaveRules, HaltedMarkTrees, MessagesHaveKinds, NodesKeepPorts, NodesStayAwake, NoneIsDeferred, OneSends, OthersMarkNone, RunsAreShort, SendsWithinBound, SendsWithinPieces, SendsWithinWakers, SilenceEnds, SilenceHalts, SilenceWakes};
 ghost use Rattle.peer_machine.specs.Protocol.{FitsGraphs};
 
 /// Each node keeps its number and the keys of its ports.
@@ -28,6 +28,11 @@ pub fn law_awake()
 /// Where W nodes may wake by themselves, a run sends at most 2E·W + N - 1 messages.
 pub fn law_wakers()
     ensures { SendsWithinWakers }
+{}
+
+/// Where the graph is in C pieces, at most 2E·W + N - C.
+pub fn law_pieces()
+    ensures { SendsWithinPieces }
 {}
 
 /// Where one node may, at most 2E + N - 1.
