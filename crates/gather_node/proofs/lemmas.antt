@@ -1,0 +1,2 @@
+-- What proofs about nodes above this crate may use.
+pub mod Forest

@@ -1,0 +1,2 @@
+-- What proofs about runs of Gather above this crate may use.
+pub mod Laws
