@@ -1,7 +1,7 @@
 use Rattle.std.proofs.Common.{◌++◌, ◌∙◌, ap, rules, slice_index}
 use Rattle.ghs_core.specs.NetState.{net_of}
 use Rattle.peer_page.proofs.lemmas.Counted.{same_line}
-use Rattle.ghs_data.proofs.data.put_ledger.Goals as goal
+use Rattle.ghs_view.proofs.data.put_ledger.Goals as goal
 
 pub returns : goal.returns
 returns c =

@@ -3,7 +3,7 @@ ghost use Rattle.std.specs.Prelude.{◌≡◌, ◌++◌, ◌≤◌, ◌^◌, IfO
 ghost use Rattle.ghs_core.specs.NetState.{net_of, network};
 ghost use Rattle.peer_network.specs.Network.{network_of};
 ghost use Rattle.ghs_protocol.specs.Run.{IsRun};
-ghost use Rattle.ghs_data.specs.Data.{data_json, ledger_json};
+ghost use Rattle.ghs_view.specs.Data.{data_json, ledger_json};
 
 use crate::protocol::PROTOCOL;
 use ghs_choices::form::Form;

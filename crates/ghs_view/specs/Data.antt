@@ -1,7 +1,7 @@
 -- The data of a run: the network, the words of the protocol, the steps from the opening on, and the counts behind the last of them.
 use Rattle.std.specs.Prelude.{ℕ, List, ◌++◌, length}
 use Rattle.std.specs.List.{flat_map}
-use Rattle.ghs_data.specs.declared.protocol.TheConstants.{PROTOCOL}
+use Rattle.ghs_view.specs.declared.protocol.TheConstants.{PROTOCOL}
 use Rattle.ghs_graph.specs.Graph.{Shape}
 use Rattle.peer_network.specs.declared.event.Event.{Event}
 use Rattle.ghs_protocol.specs.Ledger.{waiting}
