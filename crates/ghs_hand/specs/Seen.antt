@@ -1,7 +1,7 @@
 -- What a page is told of a world.
 use Rattle.std.specs.Prelude.{◌≡◌, ◌↔◌, ℕ, Bool, true, false, IsTrue, List, [], ◌++◌, codes, decimal, length}
 use Rattle.std.specs.List.{flat_map}
-use Rattle.ghs_data.specs.Data.{data_json}
+use Rattle.ghs_view.specs.Data.{data_json}
 use Rattle.ghs_graph.specs.Bound.{IsBound}
 use Rattle.ghs_patient.specs.Patience.{puts_back}
 use Rattle.peer_network.specs.declared.event.Event.{Event}

@@ -7,9 +7,9 @@ ghost use Rattle.ghs_world.specs.Ready.{is_ready};
 ghost use Rattle.ghs_world.specs.WorldState.{home};
 
 use ghs_core::event::Event;
-use ghs_data::data::data_of;
 use ghs_graph::bounds::bound;
 use ghs_lines::numbers::put_number;
+use ghs_view::data::data_of;
 use ghs_world::world::World;
 use std::alloc::{AllocError, Global};
 

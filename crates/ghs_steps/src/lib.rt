@@ -6,7 +6,7 @@
 //! to the state after it, without a rule of the protocol (`law_deltas`).
 //!
 //! The lines go out by portions, so the memory doesn't grow with the text, and a run is played twice. Worked runs:
-//! `ghs_tool_examples`. Next: `ghs_data`, the same lines for a page, and `ghs_parts`, which counts over them.
+//! `ghs_tool_examples`. Next: `ghs_view`, the same lines on a page, and `ghs_parts`, which counts over them.
 #![tactic(auto)]
 
 pub mod change;

@@ -1,6 +1,6 @@
 -- The page of a run.
 use Rattle.std.specs.Prelude.{◌≡◌, ℕ, List, length}
-use Rattle.ghs_data.specs.Data.{data_json}
+use Rattle.ghs_view.specs.Data.{data_json}
 use Rattle.ghs_graph.specs.Bound.{IsBound}
 use Rattle.ghs_graph.specs.Graph.{Shape}
 use Rattle.ghs_page.specs.Page.{page_text}

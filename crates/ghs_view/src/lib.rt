@@ -2,12 +2,15 @@
 //!
 //! Proved: `run_page` is exactly that text round the run's data, and is refused exactly where the page would be too large
 //! (`page`, `large`); so is `pair_page`. `stored_page` judges the events first, and names the first that isn't lawful
-//! (`fault`).
+//! (`fault`). The bytes of `data_of` are exactly those of `data_json` in `specs/`: the network, the words of the protocol, the
+//! links, what each event does, and the counts. docs/FORMATS.md has the format.
 //!
 //! At most 2,000 nodes and 100,000 events that are shown (`peer_page`). What a browser makes of a page is tested and not proved
 //! (`ghs_page`).
 #![tactic(auto)]
 
+pub mod data;
 pub mod page;
 pub mod pair;
+pub mod protocol;
 pub mod stored;

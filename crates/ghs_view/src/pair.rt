@@ -6,8 +6,8 @@ ghost use Rattle.peer_page.specs.Limits.{IsPairTooLarge};
 ghost use Rattle.peer_page.specs.declared.fault.PageFault.TheVariants.{TooLarge};
 ghost use Rattle.ghs_view.specs.PairPage.{IsPairPage};
 
+use crate::data::data_of;
 use ghs_core::event::Event;
-use ghs_data::data::data_of;
 use ghs_graph::bounds::bound;
 use ghs_graph::graph::Graph;
 use ghs_page::page;

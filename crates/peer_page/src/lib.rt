@@ -4,8 +4,8 @@
 //! Proved: `is_too_large` and `first_events` say what a page takes. Each `put_` function appends exactly its lines, as `specs/`
 //! has them, and takes nothing away. docs/FORMATS.md has the format.
 //!
-//! At most 2,000 nodes (`PAGE_NODES`) and 100,000 events that are shown (`PAGE_EVENTS`). Next: `ghs_data` and `peer_view`, the
-//! data of a run of GHS and of any other protocol.
+//! At most 2,000 nodes (`PAGE_NODES`) and 100,000 events that are shown (`PAGE_EVENTS`). Next: `ghs_view` and `peer_view`, a run
+//! of GHS and of any other protocol as a page.
 #![tactic(auto)]
 
 pub mod commas;

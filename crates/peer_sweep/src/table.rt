@@ -145,7 +145,7 @@ fn push<P: Swept>(columns: &mut Vec<Column>, name: Word, measure: Measure) -> Re
 }
 
 /// The kind of this name, if the protocol has one.
-fn kind_named<P: Swept>(name: &Word) -> Option<usize>
+pub fn kind_named<P: Swept>(name: &Word) -> Option<usize>
     ensures { result ≡ kind_named P.about.kind name.now P.about.kinds }
 {
     let mut found = None;

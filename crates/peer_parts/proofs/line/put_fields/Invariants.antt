@@ -1,0 +1,7 @@
+use Rattle.std.proofs.Common.{◌≡◌, ◌++◌, take}
+use Rattle.std.specs.List.{flat_map}
+use Rattle.peer_parts.specs.Line.{column_field}
+use Rattle.peer_parts.proofs.line.put_fields.Given as goal
+
+abbrev pub invariant-loop-column : goal.invariant-loop-column
+invariant-loop-column l = l.text.items ≡ l.fn.text.items ++ flat_map (column_field l.counts) (take l.column-index l.columns)
