@@ -1,5 +1,5 @@
 -- What running a network by any protocol comes to, and playing a stored run of it again, or telling it. Of the options of a run its
--- seed, wake set, turns and what is shown are taken; the others go with GHS alone.
+-- schedule, seed, wake set, turns and what is shown are taken; the others go with GHS alone.
 use Rattle.std.specs.Prelude.{◌≡◌, ℕ, ◌+◌, ◌≤◌, Bool, true, false, List, None}
 use Rattle.ghs_graph.specs.declared.key.Key.{Key}
 use Rattle.ghs_graph.specs.Graph.{Shape}
@@ -51,7 +51,7 @@ module _ {S M : Type 0} (r : Rules S M) where
   module _ (has_ended : Shape → Net S M → Type 0) where
     -- why a run of a graph doesn't end well: its turns are used, or memory runs out
     abbrev pub StopsRun : RunOptions → Shape → ServeFault → Type 0
-    StopsRun o g serve.TurnLimit = (events : List Event) × IsStopped r has_ended o.seed o.wake o.turns g events
+    StopsRun o g serve.TurnLimit = (events : List Event) × IsStopped r has_ended o.schedule_kind o.seed o.wake o.turns g events
     StopsRun o g serve.Memory = Unit {0}
     StopsRun o g _ = ⊥
 
@@ -92,13 +92,13 @@ module _ {S M : Type 0} (r : Rules S M) where
         -- the seed's run of the graph ends, and the output shows it
         pub record IsRun (o : RunOptions) (g : Shape) (output : List ℕ) : Type 0 where
           pub events : List Event
-          pub whole : IsWholeRun r has_ended o.seed o.wake o.turns g events
+          pub whole : IsWholeRun r has_ended o.schedule_kind o.seed o.wake o.turns g events
           pub printed : IsShown o.show g events output
 
         -- it has used its turns, and the output has its events, which are asked for
         pub record IsStoppedText (o : RunOptions) (g : Shape) (output : List ℕ) : Type 0 where
           pub events : List Event
-          pub stopped : IsStopped r has_ended o.seed o.wake o.turns g events
+          pub stopped : IsStopped r has_ended o.schedule_kind o.seed o.wake o.turns g events
           pub asked : o.show ≡ Events
           pub printed : output ≡ stored_text p events
 

@@ -46,7 +46,14 @@ pub(crate) fn ran<P: FindsTree + Spoken + Measured>(
     ensures fault { IfErr result (StopsRun P.rules P.has_ended options.now graph) }
     ensures early { IfErr result (λ fault. is_late (Task.Run protocol options.now) fault ≡ false) }
 {
-    let (world, end) = run_by_seed::<P>(alloc, graph, options.wake, options.seed, options.turns)?;
+    let (world, end) = run_by_seed::<P>(
+        alloc,
+        graph,
+        options.wake,
+        options.schedule_kind,
+        options.seed,
+        options.turns,
+    )?;
     match end {
         RunEnd::Ended => Ok(Output {
             text: shown(alloc, protocol, options.show, &world)?,
@@ -105,7 +112,7 @@ fn stopped<P: FindsTree + Spoken>(
     options: &RunOptions,
     world: &World<P>,
 ) -> Result<Output, ServeFault>
-    requires { IsStopped P.rules P.has_ended options.now.seed options.now.wake options.now.turns world.now.net.graph world.now.net.trace }
+    requires { IsStopped P.rules P.has_ended options.now.schedule_kind options.now.seed options.now.wake options.now.turns world.now.net.graph world.now.net.trace }
     ensures output { IfOk result (λ o. IsRan P.rules P.has_ended P.words.kind P.bound P.is_branch P.found protocol options.now world.now.net.graph o.at_limit o.text.items) }
     ensures asked { OnOk result (options.now.show ≡ Events) }
     ensures fault { IfErr result (StopsRun P.rules P.has_ended options.now world.now.net.graph) }
