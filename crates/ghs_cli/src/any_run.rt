@@ -16,6 +16,7 @@ ghost use Rattle.std.specs.Prelude.{◌≡◌, ◌↔◌, false, true, OnOk, IfE
 use crate::fault::ServeFault;
 use crate::running::Output;
 use crate::timing::time_text_of;
+use ghs_choices::schedule_kind::ScheduleKind;
 use ghs_commands::job::{RunOptions, Show, StepsOptions};
 use ghs_gr::device::Sink;
 use ghs_graph::graph::Graph;
@@ -56,7 +57,7 @@ pub(crate) fn ran<P: FindsTree + Spoken + Measured>(
     )?;
     match end {
         RunEnd::Ended => Ok(Output {
-            text: shown(alloc, protocol, options.show, &world)?,
+            text: shown(alloc, protocol, options.show, options.schedule_kind, &world)?,
             at_limit: false,
         }),
         RunEnd::Stopped => stopped(alloc, protocol, options, &world),
@@ -68,16 +69,17 @@ fn shown<P: FindsTree + Spoken + Measured>(
     alloc: Global,
     protocol: Protocol,
     show: Show,
+    schedule_kind: ScheduleKind,
     world: &World<P>,
 ) -> Result<Vec<u8>, ServeFault>
     requires { P.has_ended world.now.net.graph (net_after P.rules world.now.net.graph world.now.net.trace) }
-    ensures text { IfOk result (λ text. IsShown P.rules P.has_ended P.words.kind P.bound P.is_branch P.found protocol show world.now.net.graph world.now.net.trace text.items) }
+    ensures text { IfOk result (λ text. IsShown P.rules P.has_ended P.words.kind P.bound P.is_branch P.found protocol show schedule_kind world.now.net.graph world.now.net.trace text.items) }
     ensures err { IfErr result (λ fault. fault ≡ ServeFault.Memory) }
 {
     match show {
         Show::Summary => reported(alloc, world),
         Show::Events => Ok(events_text(alloc, protocol, world)?),
-        Show::Time => Ok(time_text_of(alloc, world.net())?),
+        Show::Time => Ok(time_text_of(alloc, schedule_kind, world.net())?),
     }
 }
 

@@ -161,6 +161,10 @@ last_in_step-taken : kinds_of (in_step (codes "--schedule" ∷ codes "lifo" ∷ 
 unfolding program clap_on_literals
 last_in_step-taken = refl
 
+rounds_in_step-taken : kinds_of (in_step (codes "--schedule" ∷ codes "rounds" ∷ [])) ≡ []
+unfolding program clap_on_literals
+rounds_in_step-taken = refl
+
 waits_in_step-refused : kinds_of (in_step (codes "--schedule" ∷ codes "waits" ∷ [])) ≡ kind.InvalidValue ∷ []
 unfolding program clap_on_literals
 waits_in_step-refused = refl

@@ -388,7 +388,7 @@ is_exploration command = not (is_none (value_in (codes "limit") command))
 abbrev pub runs_so : Used → Bool
 runs_so command =
     (is_sweep command || is_number 0 0 (value_in (codes "workers") command))
-    && is_among (codes "seeded" ∷ codes "patient" ∷ codes "lifo" ∷ []) (value_in (codes "schedule") command)
+    && is_among (codes "seeded" ∷ codes "patient" ∷ codes "rounds" ∷ codes "lifo" ∷ []) (value_in (codes "schedule") command)
     && not (is_said (codes "true") (value_in (codes "core") command))
     && (is_sweep command || is_exploration command || not (is_said (codes "true") (value_in (codes "progress") command)))
     && not (is_said (codes "true") (value_in (codes "tally") command))

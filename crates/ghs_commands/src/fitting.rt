@@ -27,7 +27,7 @@ fn stranger_of_run<'a>(matches: &ArgMatches<'a>) -> Option<&'static str>
         Some("--workers <workers>")
     } else if !is_among(
         value_of(matches, "schedule"),
-        &["seeded", "patient", "lifo"],
+        &["seeded", "patient", "rounds", "lifo"],
     ) {
         Some("--schedule <schedule>")
     } else if is_said(value_of(matches, "core"), "true") {

@@ -20,23 +20,27 @@ use Rattle.peer_runs.specs.Runs.{HasRun, IsAtLimit}
 use Rattle.peer_runs.specs.WorldState.{WorldState, ready_events, wakers}
 use Rattle.peer_lifo.specs.Picks.{IsPickedLast}
 use Rattle.peer_lifo.specs.Runs as lifo
+use Rattle.peer_rounds.specs.Runs as rounds
 use Rattle.peer_report.specs.Runs.{HasRunBy, IsPickedBy, IsRunBy, IsStopped, IsWholeRun}
 
 -- a run from an opening is one by the kind that made it
 module _ {S M : Type 0} (r : Rules S M) (turns : ℕ) (old new : WorldState) (words after : List ℕ) (first : old.net.trace ≡ []) where
   pub seeded_by : HasRun r turns old new words after → (kind : ScheduleKind) →
-      (kind ≡ Seeded) ⊎ ((kind ≡ Patient) ⊎ ((kind ≡ Rounds) ⊎ ((kind ≡ Waits) ⊎ (kind ≡ RoundRobin)))) →
+      (kind ≡ Seeded) ⊎ ((kind ≡ Patient) ⊎ ((kind ≡ Waits) ⊎ (kind ≡ RoundRobin))) →
       HasRunBy kind r turns old new words after
   seeded_by run kind among = record { graph = run.graph; wake = run.wake; picked = by among }
     where
       picked : IsPicked r (wakers old) old.net.graph turns [] words new.net.trace after
       picked = subst (λ (es : List Event). IsPicked r (wakers old) old.net.graph turns es words new.net.trace after) first run.picked
 
-      by : (kind ≡ Seeded) ⊎ ((kind ≡ Patient) ⊎ ((kind ≡ Rounds) ⊎ ((kind ≡ Waits) ⊎ (kind ≡ RoundRobin)))) →
+      by : (kind ≡ Seeded) ⊎ ((kind ≡ Patient) ⊎ ((kind ≡ Waits) ⊎ (kind ≡ RoundRobin))) →
           IsPickedBy kind r (wakers old) old.net.graph turns words new.net.trace after
       by =
           ⊎_elim (λ z. rw z picked)
-          (⊎_elim (λ z. rw z picked) (⊎_elim (λ z. rw z picked) (⊎_elim (λ z. rw z picked) (λ z. rw z picked))))
+          (⊎_elim (λ z. rw z picked) (⊎_elim (λ z. rw z picked) (λ z. rw z picked)))
+
+  pub rounds_by : (n : ℕ) → rounds.HasRun r turns old new words after n → HasRunBy Rounds r turns old new words after
+  rounds_by n run = record { graph = run.graph; wake = run.wake; picked = (n, run.picked) }
 
   pub lifo_by : lifo.HasRun r turns old new words after → HasRunBy Lifo r turns old new words after
   lifo_by run = record {

@@ -12,6 +12,7 @@ use Rattle.peer_machine.specs.Rules.{Rules}
 use Rattle.peer_machine.specs.Net.{Net}
 use Rattle.peer_machine.specs.Run.{IsRunUnder, net_after}
 use Rattle.peer_lifo.specs.Picks.{IsPickedLast}
+use Rattle.peer_rounds.specs.Picks.{IsPickedByRounds}
 use Rattle.peer_runs.specs.Lawful.{lawful_events}
 use Rattle.peer_runs.specs.Picks.{IsPicked}
 use Rattle.peer_runs.specs.WorldState.{WorldState, wakers}
@@ -21,12 +22,12 @@ use Rattle.peer_report.specs.declared.run.RunEnd.TheVariants.{Ended, Stopped}
 -- The events that a schedule's words pick of a graph, from the opening on, and the words that are left. No message is deferred, so each event moves
 -- the run on: a patient run is the seeded one, and so is one that prefers what waits. There is no run by round robin: it is the seeded one too.
 abbrev pub IsPickedBy : {S M : Type 0} → ScheduleKind → Rules S M → (ℕ → Bool) → Shape → ℕ → List ℕ → List Event → List ℕ → Type 0
-IsPickedBy Seeded r may g turns words = IsPicked r may g turns [] words
-IsPickedBy Patient r may g turns words = IsPicked r may g turns [] words
-IsPickedBy Rounds r may g turns words = IsPicked r may g turns [] words
-IsPickedBy Waits r may g turns words = IsPicked r may g turns [] words
-IsPickedBy Lifo r may g turns words = IsPickedLast r may g turns [] words
-IsPickedBy RoundRobin r may g turns words = IsPicked r may g turns [] words
+IsPickedBy Seeded r may g turns words events after = IsPicked r may g turns [] words events after
+IsPickedBy Patient r may g turns words events after = IsPicked r may g turns [] words events after
+IsPickedBy Rounds r may g turns words events after = (rounds : ℕ) × IsPickedByRounds r may g turns words events rounds after
+IsPickedBy Waits r may g turns words events after = IsPicked r may g turns [] words events after
+IsPickedBy Lifo r may g turns words events after = IsPickedLast r may g turns [] words events after
+IsPickedBy RoundRobin r may g turns words events after = IsPicked r may g turns [] words events after
 
 -- a world has run on from its opening: graph and wake set stay, and the words have picked its events
 pub record HasRunBy {S M : Type 0} (kind : ScheduleKind) (r : Rules S M) (turns : ℕ) (old new : WorldState) (words after : List ℕ) : Type 0 where

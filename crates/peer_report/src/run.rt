@@ -10,6 +10,7 @@ use ghs_graph::graph::Graph;
 use peer_lifo::run::run_followed as run_last_followed;
 use peer_machine::ends::Ends;
 use peer_network::wake_set::WakeSet;
+use peer_rounds::run::run_followed as run_rounds_followed;
 use peer_runs::fault::RunFault;
 use peer_runs::follower::Follower;
 use peer_runs::run::run_followed;
@@ -27,7 +28,8 @@ pub enum RunEnd {
 }
 
 /// Runs the network of a graph by a schedule of a seed, within the turns, and says how it has come to stand. `Lifo` takes
-/// first what was sent last; every other kind is the seeded run, since no message is deferred. Refusal: out of memory.
+/// first what was sent last, and `Rounds` goes by rounds; every other kind is the seeded run, since no message is deferred.
+/// Refusal: out of memory.
 ///
 /// ```text
 /// let (world, end) = run_by_seed::<Boruvka>(alloc, graph, WakeSet::All, ScheduleKind::Seeded, 7, 1 << 40)?;
@@ -99,9 +101,12 @@ fn run_on<P: Ends, F: Follower<P>>(
 {
     match schedule_kind {
         ScheduleKind::Lifo => run_last_followed(alloc, world, schedule, turns, kept),
+        ScheduleKind::Rounds => {
+            let (_, end) = run_rounds_followed(alloc, world, schedule, turns, kept);
+            end
+        }
         ScheduleKind::Seeded
         | ScheduleKind::Patient
-        | ScheduleKind::Rounds
         | ScheduleKind::Waits
         | ScheduleKind::RoundRobin => run_followed(alloc, world, schedule, turns, kept),
     }
