@@ -75,7 +75,7 @@ one_network_charted ps o ns i first n name old text new is within at named (pane
 -- the panel of just the sweep's runs is the network's
 pub panel_is_swept : (p : Protocol) (o : SweepOptions) (place : ℕ) (name : List ℕ) (g : Shape) (all runs : List Figures) (old new : List ℕ) →
     runs ≡ all →
-    AreRunsBy p g (setup_of p o) o.seeds.first all →
+    AreRunsBy p g (setup_of o) o.seeds.first all →
     length all ≡ count_of o →
     (panel : List ℕ) × IsPanelOf p place name g runs panel × (new ≡ old ++ panel) →
     (panel : List ℕ) × IsPanel p o place name g panel × (new ≡ old ++ panel)

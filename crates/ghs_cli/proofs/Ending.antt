@@ -45,7 +45,7 @@ ghs_never_stops o g stops bounded =
 module _ {S M : Type 0} (r : Rules S M) (has_ended : Shape → Net S M → Type 0) (bound : Shape → ℕ) where
   pub any_never_stops : TurnsSuffice r has_ended bound → (o : RunOptions) (g : Shape) → StopsRun r has_ended o g serve.TurnLimit →
       HasTurnsFor bound o g → ⊥
-  any_never_stops suffice o g stops enough = suffice o.seed o.wake o.turns g stops.0 enough stops.1
+  any_never_stops suffice o g stops enough = suffice o.schedule_kind o.seed o.wake o.turns g stops.0 enough stops.1
 
 -- what goes out at the turn limit is of a run that has used its turns,
 limit_stops : (p : Protocol) (o : RunOptions) (g : Shape) (output : List ℕ) → (verbs_of p).runs o g true output →

@@ -40,9 +40,9 @@ summary_behind o front l setup runs old new is (lines, are, printed) =
 pub sheet_is_swept : (p : Protocol) (o : SweepOptions) (front : List ℕ) (g : Shape) (l : Layout) (setup : Setup) (all runs : List Figures)
     (old new : List ℕ) →
     l ≡ layout_by p →
-    setup ≡ setup_of p o →
+    setup ≡ setup_of o →
     runs ≡ all →
-    AreRunsBy p g (setup_of p o) o.seeds.first all →
+    AreRunsBy p g (setup_of o) o.seeds.first all →
     length all ≡ count_of o →
     (lines : List ℕ) × AreSheetLines o.sheet o.form front l setup o.seeds.first runs lines × (new ≡ old ++ lines) →
     (lines : List ℕ) × AreSweptLines p o front g lines × (new ≡ old ++ lines)
@@ -52,7 +52,7 @@ sheet_is_swept p o front g l setup all runs old new laid same_setup same are cou
     runs = all;
     are = are;
     all = count;
-    printed = subst (λ (rs : List Figures). AreSheetLines o.sheet o.form front (layout_by p) (setup_of p o) o.seeds.first rs lines) same
+    printed = subst (λ (rs : List Figures). AreSheetLines o.sheet o.form front (layout_by p) (setup_of o) o.seeds.first rs lines) same
         (subst (λ (s : Setup). AreSheetLines o.sheet o.form front (layout_by p) s o.seeds.first runs lines) same_setup
         (subst (λ (x : Layout). AreSheetLines o.sheet o.form front x setup o.seeds.first runs lines) laid sheet));
   },

@@ -34,7 +34,7 @@ no_view_for_memory r has_ended x fault o g is memory = rw (is, memory) tt
 -- a run by any protocol is shown, however it has come to stand
 module _ {S M : Type 0} (r : Rules S M) (has_ended : Shape → Net S M → Type 0) where
   pub shown_run : (seed : ℕ) (o : ViewOptions) (g : Shape) (events : List Event) (end : RunEnd) →
-      IsRunThatEnds r has_ended seed o.wake o.turns g events end →
+      IsRunThatEnds r has_ended o.schedule_kind seed o.wake o.turns g events end →
       IsShownBy r has_ended seed o g events
   shown_run seed o g events Ended run = inl run
   shown_run seed o g events Stopped run = inr run

@@ -1,9 +1,11 @@
 -- What running a network by any protocol comes to, and playing a stored run of it again, or telling it. Of the options of a run its
--- seed, wake set, turns and what is shown are taken; the others go with GHS alone.
-use Rattle.std.specs.Prelude.{◌≡◌, ℕ, ◌+◌, ◌≤◌, Bool, true, false, List, None}
+-- schedule, seed, wake set, turns and what is shown are taken; the others go with GHS alone.
+use Rattle.std.specs.Prelude.{◌≡◌, ℕ, ◌+◌, ◌≤◌, ◌++◌, Bool, true, false, List, [], codes, decimal}
+use Rattle.ghs_choices.specs.declared.schedule_kind.ScheduleKind.{ScheduleKind}
+use Rattle.ghs_choices.specs.declared.schedule_kind.ScheduleKind.TheVariants.{Lifo, Patient, RoundRobin, Rounds, Seeded, Waits}
 use Rattle.ghs_graph.specs.declared.key.Key.{Key}
 use Rattle.ghs_graph.specs.Graph.{Shape}
-use Rattle.ghs_picking.specs.Time.{time_text}
+use Rattle.ghs_picking.specs.Time.{bits_line, chain_line}
 use Rattle.ghs_picking.specs.declared.lengths.RunLengths.{RunLengths}
 use Rattle.peer_network.specs.declared.event.Event.{Event}
 use Rattle.peer_network.specs.declared.wake_set.WakeSet.{WakeSet}
@@ -28,6 +30,19 @@ use Rattle.ghs_commands.specs.declared.job.StepsOptions.{StepsOptions}
 use Rattle.ghs_cli.specs.declared.fault.ServeFault.{ServeFault}
 use Rattle.ghs_cli.specs.declared.fault.ServeFault.TheVariants as serve
 
+-- a line of rounds without a bound
+unfoldable pub rounds_line : ℕ → List ℕ
+rounds_line rounds = codes "u " ++ decimal rounds ++ codes "\n"
+
+-- `u ROUNDS`: by rounds a run that has ended has as many rounds as its longest chain has messages. By other schedules there is no line
+abbrev pub rounds_lines : ScheduleKind → ℕ → List ℕ
+rounds_lines Seeded rounds = []
+rounds_lines Patient rounds = []
+rounds_lines Rounds rounds = rounds_line rounds
+rounds_lines Waits rounds = []
+rounds_lines Lifo rounds = []
+rounds_lines RoundRobin rounds = []
+
 -- the rules of a protocol
 module _ {S M : Type 0} (r : Rules S M) where
   -- how long a run is: its longest chain, in messages; and in bits all that it sends together, and the longest message
@@ -38,9 +53,11 @@ module _ {S M : Type 0} (r : Rules S M) where
     longest = longest_sent r g events;
   }
 
-  -- the text of its time: that of a run of GHS that goes by no rounds and no laps
-  abbrev pub timed_text : Shape → List Event → List ℕ
-  timed_text g events = time_text (lengths_of g events) None None
+  -- the text of the time of a run that has ended: its longest chain, by rounds these, and its bits
+  abbrev pub timed_text : ScheduleKind → Shape → List Event → List ℕ
+  timed_text kind g events =
+      let lengths = lengths_of g events in
+      chain_line lengths.chain ++ rounds_lines kind lengths.chain ++ bits_line lengths.bits lengths.longest
 
   -- events that are a run of the graph, and the output is the lines of those that are chosen, in the protocol's words
   pub record AreSteps (words : Words S M) (o : StepsOptions) (g : Shape) (events : List Event) (output : List ℕ) : Type 0 where
@@ -51,7 +68,7 @@ module _ {S M : Type 0} (r : Rules S M) where
   module _ (has_ended : Shape → Net S M → Type 0) where
     -- why a run of a graph doesn't end well: its turns are used, or memory runs out
     abbrev pub StopsRun : RunOptions → Shape → ServeFault → Type 0
-    StopsRun o g serve.TurnLimit = (events : List Event) × IsStopped r has_ended o.seed o.wake o.turns g events
+    StopsRun o g serve.TurnLimit = (events : List Event) × IsStopped r has_ended o.schedule_kind o.seed o.wake o.turns g events
     StopsRun o g serve.Memory = Unit {0}
     StopsRun o g _ = ⊥
 
@@ -84,21 +101,21 @@ module _ {S M : Type 0} (r : Rules S M) where
       -- the protocol, as heads of stored runs name it
       module _ (p : Protocol) where
         -- what is shown of a run that has ended: its report, its events, or its time
-        abbrev pub IsShown : Show → Shape → List Event → List ℕ → Type 0
-        IsShown Summary g events output = IsText g events output
-        IsShown Events g events output = output ≡ stored_text p events
-        IsShown Time g events output = output ≡ timed_text g events
+        abbrev pub IsShown : Show → ScheduleKind → Shape → List Event → List ℕ → Type 0
+        IsShown Summary kind g events output = IsText g events output
+        IsShown Events kind g events output = output ≡ stored_text p events
+        IsShown Time kind g events output = output ≡ timed_text kind g events
 
         -- the seed's run of the graph ends, and the output shows it
         pub record IsRun (o : RunOptions) (g : Shape) (output : List ℕ) : Type 0 where
           pub events : List Event
-          pub whole : IsWholeRun r has_ended o.seed o.wake o.turns g events
-          pub printed : IsShown o.show g events output
+          pub whole : IsWholeRun r has_ended o.schedule_kind o.seed o.wake o.turns g events
+          pub printed : IsShown o.show o.schedule_kind g events output
 
         -- it has used its turns, and the output has its events, which are asked for
         pub record IsStoppedText (o : RunOptions) (g : Shape) (output : List ℕ) : Type 0 where
           pub events : List Event
-          pub stopped : IsStopped r has_ended o.seed o.wake o.turns g events
+          pub stopped : IsStopped r has_ended o.schedule_kind o.seed o.wake o.turns g events
           pub asked : o.show ≡ Events
           pub printed : output ≡ stored_text p events
 

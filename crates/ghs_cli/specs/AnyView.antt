@@ -1,4 +1,4 @@
--- Pages of runs of a graph by any protocol. Of the options of a page the schedule goes with GHS alone.
+-- Pages of runs of a graph by any protocol.
 use Rattle.std.specs.Prelude.{◌⊎◌, ℕ, List, Option, Some, None}
 use Rattle.ghs_graph.specs.Graph.{Shape}
 use Rattle.peer_page.specs.Limits.{IsPairTooLarge, IsTooLarge}
@@ -28,7 +28,8 @@ module _ {S M : Type 0} (r : Rules S M) where
   module _ (has_ended : Shape → Net S M → Type 0) where
     -- the run that a seed picks of a graph, to its end or to its last turn
     abbrev pub IsShownBy : ℕ → ViewOptions → Shape → List Event → Type 0
-    IsShownBy seed o g events = IsWholeRun r has_ended seed o.wake o.turns g events ⊎ IsStopped r has_ended seed o.wake o.turns g events
+    IsShownBy seed o g events =
+        IsWholeRun r has_ended o.schedule_kind seed o.wake o.turns g events ⊎ IsStopped r has_ended o.schedule_kind seed o.wake o.turns g events
 
     -- the run is one that a page can't take
     pub record IsLongRun (o : ViewOptions) (g : Shape) : Type 0 where

@@ -37,7 +37,7 @@ pub record IsPanelOf (p : Protocol) (place : ℕ) (name : List ℕ) (g : Shape) 
 -- the panel of a network's sweep, of the runs of just its seeds
 pub record IsPanel (p : Protocol) (o : SweepOptions) (place : ℕ) (name : List ℕ) (g : Shape) (panel : List ℕ) : Type 0 where
   pub runs : List Figures
-  pub are : AreRunsBy p g (setup_of p o) o.seeds.first runs
+  pub are : AreRunsBy p g (setup_of o) o.seeds.first runs
   pub all : length runs ≡ count_of o
   pub drawn : IsPanelOf p place name g runs panel
 

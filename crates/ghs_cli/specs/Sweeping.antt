@@ -45,9 +45,9 @@ AreSheetLines Chart form front l setup first runs lines = lines ≡ []
 -- the lines of the sweep of a graph by a protocol, printed of the runs of just its seeds, each behind a front
 pub record AreSweptLines (p : Protocol) (o : SweepOptions) (front : List ℕ) (g : Shape) (lines : List ℕ) : Type 0 where
   pub runs : List Figures
-  pub are : AreRunsBy p g (setup_of p o) o.seeds.first runs
+  pub are : AreRunsBy p g (setup_of o) o.seeds.first runs
   pub all : length runs ≡ count_of o
-  pub printed : AreSheetLines o.sheet o.form front (layout_by p) (setup_of p o) o.seeds.first runs lines
+  pub printed : AreSheetLines o.sheet o.form front (layout_by p) (setup_of o) o.seeds.first runs lines
 
 -- a seed's run by GHS by parts: a line for each of them, each behind a front
 pub record IsPartedRun (o : SweepOptions) (by : By) (front : List ℕ) (g : Shape) (seed : ℕ) (lines : List ℕ) : Type 0 where

@@ -3,8 +3,6 @@ use Rattle.std.specs.Prelude.{◌≡◌, ℕ, List, [], ◌∷◌, Option, None,
 use Rattle.ghs_graph.specs.Bound.{IsBound}
 use Rattle.ghs_graph.specs.Graph.{Shape}
 use Rattle.ghs_choices.specs.declared.by.By.{By}
-use Rattle.ghs_choices.specs.declared.schedule_kind.ScheduleKind.{ScheduleKind}
-use Rattle.ghs_choices.specs.declared.schedule_kind.ScheduleKind.TheVariants.{Seeded}
 use Rattle.ghs_commands.specs.declared.job.SweepOptions.{SweepOptions}
 use Rattle.peer_trace.specs.declared.protocol.Protocol.{Protocol}
 use Rattle.peer_trace.specs.declared.protocol.Protocol.TheVariants as protocol
@@ -64,14 +62,9 @@ IsBoundBy protocol.Ghs g n = IsBound g.nodes (length g.keys) n
 IsBoundBy protocol.Boruvka g n = n ≡ bound_of g
 IsBoundBy protocol.Echo g n = n ≡ wave.bound_of g
 
--- among which events schedules pick: GHS alone has others than the seeded
-abbrev pub schedule_by : Protocol → SweepOptions → ScheduleKind
-schedule_by protocol.Ghs o = o.schedule_kind
-schedule_by _ o = Seeded
-
 -- what the runs of a sweep have in common
-abbrev pub setup_of : Protocol → SweepOptions → Setup
-setup_of p o = record { schedule_kind = schedule_by p o; wake = o.wake; turns = o.turns }
+abbrev pub setup_of : SweepOptions → Setup
+setup_of o = record { schedule_kind = o.schedule_kind; wake = o.wake; turns = o.turns }
 
 -- by which parts messages are counted: sweeps by GHS alone have any
 abbrev pub by_of : List Protocol → SweepOptions → Option By

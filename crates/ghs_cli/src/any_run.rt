@@ -16,6 +16,7 @@ ghost use Rattle.std.specs.Prelude.{◌≡◌, ◌↔◌, false, true, OnOk, IfE
 use crate::fault::ServeFault;
 use crate::running::Output;
 use crate::timing::time_text_of;
+use ghs_choices::schedule_kind::ScheduleKind;
 use ghs_commands::job::{RunOptions, Show, StepsOptions};
 use ghs_gr::device::Sink;
 use ghs_graph::graph::Graph;
@@ -47,10 +48,17 @@ pub(crate) fn ran<P: FindsTree + Spoken + Measured>(
     ensures fault { IfErr result (StopsRun P.rules P.has_ended options.now graph) }
     ensures early { IfErr result (λ fault. is_late (Task.Run protocol options.now) fault ≡ false) }
 {
-    let (world, end) = run_by_seed::<P>(alloc, graph, options.wake, options.seed, options.turns)?;
+    let (world, end) = run_by_seed::<P>(
+        alloc,
+        graph,
+        options.wake,
+        options.schedule_kind,
+        options.seed,
+        options.turns,
+    )?;
     match end {
         RunEnd::Ended => Ok(Output {
-            text: shown(alloc, protocol, options.show, &world)?,
+            text: shown(alloc, protocol, options.show, options.schedule_kind, &world)?,
             at_limit: false,
         }),
         RunEnd::Stopped => stopped(alloc, protocol, options, &world),
@@ -62,16 +70,17 @@ fn shown<P: FindsTree + Spoken + Measured>(
     alloc: Global,
     protocol: Protocol,
     show: Show,
+    schedule_kind: ScheduleKind,
     world: &World<P>,
 ) -> Result<Vec<u8>, ServeFault>
     requires { P.has_ended world.now.net.graph (net_after P.rules world.now.net.graph world.now.net.trace) }
-    ensures text { IfOk result (λ text. IsShown P.rules P.has_ended P.words.kind P.bound P.is_branch P.found protocol show world.now.net.graph world.now.net.trace text.items) }
+    ensures text { IfOk result (λ text. IsShown P.rules P.has_ended P.words.kind P.bound P.is_branch P.found protocol show schedule_kind world.now.net.graph world.now.net.trace text.items) }
     ensures err { IfErr result (λ fault. fault ≡ ServeFault.Memory) }
 {
     match show {
         Show::Summary => reported(alloc, world),
         Show::Events => Ok(events_text(alloc, protocol, world)?),
-        Show::Time => Ok(time_text_of(alloc, world.net())?),
+        Show::Time => Ok(time_text_of(alloc, schedule_kind, world.net())?),
     }
 }
 
@@ -106,7 +115,7 @@ fn stopped<P: FindsTree + Spoken>(
     options: &RunOptions,
     world: &World<P>,
 ) -> Result<Output, ServeFault>
-    requires { IsStopped P.rules P.has_ended options.now.seed options.now.wake options.now.turns world.now.net.graph world.now.net.trace }
+    requires { IsStopped P.rules P.has_ended options.now.schedule_kind options.now.seed options.now.wake options.now.turns world.now.net.graph world.now.net.trace }
     ensures output { IfOk result (λ o. IsRan P.rules P.has_ended P.words.kind P.bound P.is_branch P.found protocol options.now world.now.net.graph o.at_limit o.text.items) }
     ensures asked { OnOk result (options.now.show ≡ Events) }
     ensures fault { IfErr result (StopsRun P.rules P.has_ended options.now world.now.net.graph) }

@@ -43,7 +43,14 @@ fn run_viewed<P: Ends + Viewed>(
     ensures text { IfOk result (λ text. IsRunView P.rules (IsRunPage P.rules P.words P.looks P.bound) P.has_ended options.now graph text.items) }
     ensures fault { IfErr result (λ fault. HasNoView P.rules P.has_ended options.now graph fault) }
 {
-    let (world, _) = run_by_seed::<P>(alloc, graph, options.wake, options.seed, options.turns)?;
+    let (world, _) = run_by_seed::<P>(
+        alloc,
+        graph,
+        options.wake,
+        options.schedule_kind,
+        options.seed,
+        options.turns,
+    )?;
     page_of(alloc, options, &world)
 }
 
@@ -86,7 +93,14 @@ fn pair_viewed<P: Ends + Viewed>(
     ensures fault { IfErr result (λ fault. HasNoView P.rules P.has_ended options.now graph fault) }
 {
     let same = graph.copy(alloc)?;
-    let (first, _) = run_by_seed::<P>(alloc, graph, options.wake, options.seed, options.turns)?;
+    let (first, _) = run_by_seed::<P>(
+        alloc,
+        graph,
+        options.wake,
+        options.schedule_kind,
+        options.seed,
+        options.turns,
+    )?;
     viewed_beside(alloc, options, beside, same, &first)
 }
 
@@ -104,7 +118,14 @@ fn viewed_beside<P: Ends + Viewed>(
     ensures text { IfOk result (λ text. IsPairView P.rules (IsRunPage P.rules P.words P.looks P.bound) P.has_ended (IsPairPage P.rules P.words P.looks P.bound) options.now beside graph text.items) }
     ensures fault { IfErr result (λ fault. HasNoView P.rules P.has_ended options.now graph fault) }
 {
-    let (second, _) = run_by_seed::<P>(alloc, graph, options.wake, beside, options.turns)?;
+    let (second, _) = run_by_seed::<P>(
+        alloc,
+        graph,
+        options.wake,
+        options.schedule_kind,
+        beside,
+        options.turns,
+    )?;
     pair_page_of(alloc, options, beside, first, &second)
 }
 

@@ -191,7 +191,7 @@ fn put_swept<R: Threads + Sync + Eprint>(
 {
     let table = table_by(alloc, protocol)?;
     let runs = runs_of(rt, alloc, protocol, graph, options)?;
-    let setup = setup_of(protocol, options);
+    let setup = setup_of(options);
     put_sheet(alloc, text, options, setup, &table, front, &runs)?;
     Ok(())
 }
@@ -271,13 +271,13 @@ pub(crate) fn runs_of<R: Threads + Sync + Eprint>(
     options: &SweepOptions,
 ) -> Result<Vec<Figures>, AllocError>
     requires { AreSweepLimits options.now }
-    ensures runs { IfOk result (λ runs. AreRunsBy protocol graph.now (setup_of protocol options.now) options.now.seeds.first runs.items) }
+    ensures runs { IfOk result (λ runs. AreRunsBy protocol graph.now (setup_of options.now) options.now.seeds.first runs.items) }
     ensures all { IfOk result (λ runs. length runs.items ≡ count_of options.now) }
 {
     let Seeds { first, last } = options.seeds;
     let count = last - first + 1;
     let threads = options.workers.max(1);
-    let setup = setup_of(protocol, options);
+    let setup = setup_of(options);
     let mut runs = Vec::new(alloc);
     let mut left = count;
     while left > 0 {

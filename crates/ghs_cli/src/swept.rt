@@ -1,12 +1,11 @@
 //! How each protocol is swept. A further protocol has a line in each function by protocols here.
-ghost use Rattle.ghs_cli.specs.Swept.{AreRunsBy, IsBoundBy, by_of, kind_columns, layout_by, schedule_by, setup_of};
+ghost use Rattle.ghs_cli.specs.Swept.{AreRunsBy, IsBoundBy, by_of, kind_columns, layout_by, setup_of};
 ghost use Rattle.peer_sweep.specs.Sweep.{HasTurns};
 ghost use Rattle.std.specs.Prelude.{◌≡◌, ◌+◌, ◌≤◌, ◌^◌, IfOk, OnErr, length};
 
 use boruvka::protocol::Boruvka;
 use echo::protocol::Echo;
 use ghs_choices::by::By;
-use ghs_choices::schedule_kind::ScheduleKind;
 use ghs_commands::job::SweepOptions;
 use ghs_graph::bounds::bound;
 use ghs_graph::graph::Graph;
@@ -98,23 +97,13 @@ pub(crate) fn bound_by(protocol: Protocol, graph: &Graph) -> u64
 }
 
 /// What the runs of a sweep have in common.
-pub(crate) fn setup_of(protocol: Protocol, options: &SweepOptions) -> Setup
-    ensures { result ≡ setup_of protocol options.now }
+pub(crate) fn setup_of(options: &SweepOptions) -> Setup
+    ensures { result ≡ setup_of options.now }
 {
     Setup {
-        schedule_kind: schedule_by(protocol, options),
+        schedule_kind: options.schedule_kind,
         wake: options.wake,
         turns: options.turns,
-    }
-}
-
-/// Among which events their schedules pick.
-fn schedule_by(protocol: Protocol, options: &SweepOptions) -> ScheduleKind
-    ensures { result ≡ schedule_by protocol options.now }
-{
-    match protocol {
-        Protocol::Ghs => options.schedule_kind,
-        _ => ScheduleKind::Seeded,
     }
 }
 

@@ -1,22 +1,29 @@
 //! The time of a run by any protocol, as a text.
-ghost use Rattle.ghs_cli.specs.AnyRun.{timed_text};
+ghost use Rattle.ghs_cli.specs.AnyRun.{rounds_line, rounds_lines, timed_text};
 ghost use Rattle.ghs_picking.specs.Time.{bits_line, chain_line};
 ghost use Rattle.std.specs.Prelude.{◌≡◌, ◌++◌, IfOk};
 
+use ghs_choices::schedule_kind::ScheduleKind;
 use ghs_lines::numbers::put_number;
 use peer_lengths::lengths::lengths_of;
 use peer_machine::measured::Measured;
 use peer_net::net::Net;
 use std::alloc::{AllocError, Global};
 
-/// The time of a net's run and its bits: a line of its longest chain, and one of how many bits its messages have, and how many
-/// the longest has. The events are played once more for it. Refusal: out of memory.
-pub(crate) fn time_text_of<P: Measured>(alloc: Global, net: &Net<P>) -> Result<Vec<u8>, AllocError>
-    ensures { IfOk result (λ text. text.items ≡ timed_text P.rules net.now.graph net.now.trace) }
+/// The time of the run of a net, which has ended, and its bits: a line of its longest chain; where it went by rounds one of
+/// these, which are as many; and one of how many bits its messages have, and how many the longest has. The events are played
+/// once more for it. Refusal: out of memory.
+pub(crate) fn time_text_of<P: Measured>(
+    alloc: Global,
+    schedule_kind: ScheduleKind,
+    net: &Net<P>,
+) -> Result<Vec<u8>, AllocError>
+    ensures { IfOk result (λ text. text.items ≡ timed_text P.rules schedule_kind net.now.graph net.now.trace) }
 {
     let lengths = lengths_of::<P>(alloc, net.setting(), net.graph(), net.trace())?;
     let mut text = Vec::new(alloc);
     put_chain(&mut text, lengths.chain)?;
+    put_rounds(&mut text, schedule_kind, lengths.chain)?;
     put_bits(&mut text, lengths.bits, lengths.longest)?;
     Ok(text)
 }
@@ -28,6 +35,35 @@ fn put_chain(text: &mut Vec<u8>, chain: u64) -> Result<(), AllocError>
 {
     text.extend_from_slice(b"l ")?;
     put_number(text, u128::from(chain))?;
+    text.extend_from_slice(b"\n")?;
+    Ok(())
+}
+
+/// The line of rounds, where a run went by rounds.
+fn put_rounds(
+    text: &mut Vec<u8>,
+    schedule_kind: ScheduleKind,
+    rounds: u64,
+) -> Result<(), AllocError>
+    ensures { IfOk result (λ _. text.new.items ≡ text.old.items ++ rounds_lines schedule_kind rounds) }
+{
+    match schedule_kind {
+        ScheduleKind::Rounds => put_round_count(text, rounds),
+        ScheduleKind::Seeded
+        | ScheduleKind::Patient
+        | ScheduleKind::Waits
+        | ScheduleKind::Lifo
+        | ScheduleKind::RoundRobin => Ok(()),
+    }
+}
+
+/// The line of so many rounds.
+#[tactic(auto, unfolding(crate::specs::AnyRun::rounds_line))]
+fn put_round_count(text: &mut Vec<u8>, rounds: u64) -> Result<(), AllocError>
+    ensures { IfOk result (λ _. text.new.items ≡ text.old.items ++ rounds_line rounds) }
+{
+    text.extend_from_slice(b"u ")?;
+    put_number(text, u128::from(rounds))?;
     text.extend_from_slice(b"\n")?;
     Ok(())
 }

@@ -153,9 +153,25 @@ parts_in_step-refused : kinds_of (in_step (codes "--by" ∷ codes "node" ∷ [])
 unfolding program clap_on_literals
 parts_in_step-refused = refl
 
-patience_in_step-refused : kinds_of (in_step (codes "--schedule" ∷ codes "patient" ∷ [])) ≡ kind.InvalidValue ∷ []
+patience_in_step-taken : kinds_of (in_step (codes "--schedule" ∷ codes "patient" ∷ [])) ≡ []
 unfolding program clap_on_literals
-patience_in_step-refused = refl
+patience_in_step-taken = refl
+
+last_in_step-taken : kinds_of (in_step (codes "--schedule" ∷ codes "lifo" ∷ [])) ≡ []
+unfolding program clap_on_literals
+last_in_step-taken = refl
+
+rounds_in_step-taken : kinds_of (in_step (codes "--schedule" ∷ codes "rounds" ∷ [])) ≡ []
+unfolding program clap_on_literals
+rounds_in_step-taken = refl
+
+waits_in_step-refused : kinds_of (in_step (codes "--schedule" ∷ codes "waits" ∷ [])) ≡ kind.InvalidValue ∷ []
+unfolding program clap_on_literals
+waits_in_step-refused = refl
+
+turns_in_step-refused : kinds_of (in_step (codes "--schedule" ∷ codes "round-robin" ∷ [])) ≡ kind.InvalidValue ∷ []
+unfolding program clap_on_literals
+turns_in_step-refused = refl
 
 runs_in_step-taken : kinds_of (in_step (codes "--print" ∷ codes "runs" ∷ [])) ≡ []
 unfolding program clap_on_literals

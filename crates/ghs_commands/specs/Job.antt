@@ -383,12 +383,12 @@ is_sweep command = not (is_none (value_in (codes "sheet") command))
 abbrev pub is_exploration : Used → Bool
 is_exploration command = not (is_none (value_in (codes "limit") command))
 
--- how a network is run goes with every protocol: no threads but those of a sweep, no other schedule than the seeded, no cores, no book; nothing
--- is told of the run, but a sweep and an exploration may tell how far they have come
+-- how a network is run goes with every protocol: no threads but those of a sweep, no schedule that prefers what waits or goes by round robin, no
+-- cores, no book; nothing is told of the run, but a sweep and an exploration may tell how far they have come
 abbrev pub runs_so : Used → Bool
 runs_so command =
     (is_sweep command || is_number 0 0 (value_in (codes "workers") command))
-    && is_among (codes "seeded" ∷ []) (value_in (codes "schedule") command)
+    && is_among (codes "seeded" ∷ codes "patient" ∷ codes "rounds" ∷ codes "lifo" ∷ []) (value_in (codes "schedule") command)
     && not (is_said (codes "true") (value_in (codes "core") command))
     && (is_sweep command || is_exploration command || not (is_said (codes "true") (value_in (codes "progress") command)))
     && not (is_said (codes "true") (value_in (codes "tally") command))

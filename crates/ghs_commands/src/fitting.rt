@@ -25,7 +25,10 @@ fn stranger_of_run<'a>(matches: &ArgMatches<'a>) -> Option<&'static str>
 {
     if !is_sweep(matches) && !is_number(value_of(matches, "workers"), 0, 0) {
         Some("--workers <workers>")
-    } else if !is_among(value_of(matches, "schedule"), &["seeded"]) {
+    } else if !is_among(
+        value_of(matches, "schedule"),
+        &["seeded", "patient", "rounds", "lifo"],
+    ) {
         Some("--schedule <schedule>")
     } else if is_said(value_of(matches, "core"), "true") {
         Some("--core")

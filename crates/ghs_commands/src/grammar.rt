@@ -486,7 +486,7 @@ fn protocol<'a>(alloc: Global) -> Arg<'a>
     ensures rule { rule_of result ≡ protocol_rule }
 {
     option(alloc, "protocol", "ghs").help(
-        "Which protocol the nodes follow: ghs, boruvka (Borůvka in step) or echo (the echo wave); the last two run without threads and by a seeded schedule",
+        "Which protocol the nodes follow: ghs, boruvka (Borůvka in step) or echo (the echo wave); the last two run without threads and by the schedules seeded, patient, rounds and lifo",
     )
 }
 
@@ -498,7 +498,7 @@ fn protocols<'a>(alloc: Global) -> Arg<'a>
     valued(alloc, "protocols", "protocol")
         .default_value("ghs")
         .help(
-            "Which protocols the nodes follow, one or more between commas: ghs, boruvka (Borůvka in step) and echo (the echo wave); the last two run by a seeded schedule",
+            "Which protocols the nodes follow, one or more between commas: ghs, boruvka (Borůvka in step) and echo (the echo wave); the last two run by the schedules seeded, patient, rounds and lifo",
         )
 }
 

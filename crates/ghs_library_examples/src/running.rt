@@ -2,6 +2,7 @@
 use crate::fault::Fault;
 use crate::reading::{assert_text, graph_of_text};
 use echo::protocol::Echo;
+use ghs_choices::schedule_kind::ScheduleKind;
 use ghs_graph::graph::Graph;
 use ghs_test_graphs::graphs::PATH_OF_THREE;
 use peer_machine::ends::FindsTree;
@@ -17,7 +18,8 @@ pub fn report_of<P: FindsTree + Spoken>(
     graph: Graph,
     seed: u64,
 ) -> Result<Vec<u8>, Fault> {
-    let (world, _) = run_by_seed::<P>(alloc, graph, WakeSet::First, seed, 1 << 40)?;
+    let kind = ScheduleKind::Seeded;
+    let (world, _) = run_by_seed::<P>(alloc, graph, WakeSet::First, kind, seed, 1 << 40)?;
     Ok(run_text(alloc, &world)?)
 }
 

@@ -2,8 +2,8 @@
 //! event by event, run by a seed, measured, explored and told line by line; and the texts of stored runs, which name their
 //! protocol.
 //!
-//! The runs, the texts, the numbers and the bits were reckoned by hand from the rules and the formats, or by `bench/echo` and
-//! `bench/lifo`, and not taken from what the program does. The words of a seed are what SplitMix64 and Xoshiro256++ give as their
+//! The runs, the texts, the numbers and the bits were reckoned by hand from the rules and the formats, or by `bench/echo`,
+//! `bench/lifo` and `bench/any_rounds`, and not taken from what the program does. The words of a seed are what SplitMix64 and Xoshiro256++ give as their
 //! authors publish them. `runs` has the runs, and `playing` the nets and worlds of a graph's text.
 #![tactic(auto)]
 
@@ -35,6 +35,8 @@ mod knock_nets;
 mod lifo_runs;
 #[cfg(test)]
 mod playing;
+#[cfg(test)]
+mod rounds_runs;
 #[cfg(test)]
 mod runs;
 #[cfg(test)]

@@ -52,7 +52,7 @@ short r bound never stays kinds within g ok es run =
 
 pub turns_suffice : {S M : Type 0} (r : Rules S M) (has_ended : Shape → Net S M → Type 0) (bound : Shape → ℕ) → NeverDefers r → StaysAwake r →
     HasKinds r → HasRules r → IsBoundedBy r bound → TurnsSuffice r has_ended bound
-turns_suffice r has_ended bound never stays kinds has_rules within seed wake turns g es enough stopped = among (lawful_events r
+turns_suffice r has_ended bound never stays kinds has_rules within kind seed wake turns g es enough stopped = among (lawful_events r
     (may_wake g wake) g es) refl stopped.more
   where
     among : (fs : List Event) → lawful_events r (may_wake g wake) g es ≡ fs → 0 < length fs → ⊥

@@ -19,13 +19,13 @@ use Rattle.peer_sweep.specs.Runs.{AreFiguresOf, IsRunOf}
 module _ {S M : Type 0} (r : Rules S M) (bound : Shape → ℕ) (is_branch : S → ℕ → Bool) (has_ended : Shape → Net S M → Type 0) where
   -- a run, however it has come to stand
   pub of_either : (setup : Setup) (seed : ℕ) (g : Shape) (es : List Event) (end : RunEnd) →
-      IsRunThatEnds r has_ended seed setup.wake setup.turns g es end → IsRunOf r bound is_branch has_ended g setup seed es
+      IsRunThatEnds r has_ended setup.schedule_kind seed setup.wake setup.turns g es end → IsRunOf r bound is_branch has_ended g setup seed es
   of_either setup seed g es Ended run = inl run
   of_either setup seed g es Stopped run = inr run
 
   -- the figures of the net n that the seed's run has left of a copy of the graph are that run's
   pub figures_of_run : (g copy : Shape) (setup : Setup) (seed : ℕ) (n m : NetState) (end : RunEnd) (x : Result Figures AllocError) → n ≡ m →
-      m.graph ≡ copy → copy ≡ g → IsRunThatEnds r has_ended seed setup.wake setup.turns copy m.trace end →
+      m.graph ≡ copy → copy ≡ g → IsRunThatEnds r has_ended setup.schedule_kind seed setup.wake setup.turns copy m.trace end →
       IfOk x (λ f. AreFigures r bound is_branch has_ended n.graph n.trace f) →
       IfOk x (λ f. AreFiguresOf r bound is_branch has_ended g setup seed f)
   figures_of_run g copy setup seed n m end (Ok f) same own graph run figures = record {

@@ -27,9 +27,10 @@ module _ {S M : Type 0} (r : Rules S M) where
     -- the seed's run, which has ended or has used its turns
     abbrev pub IsRunOf : Shape → Setup → ℕ → List Event → Type 0
     IsRunOf g setup seed events =
-        IsWholeRun r has_ended seed setup.wake setup.turns g events ⊎ IsStopped r has_ended seed setup.wake setup.turns g events
+        IsWholeRun r has_ended setup.schedule_kind seed setup.wake setup.turns g events ⊎
+        IsStopped r has_ended setup.schedule_kind seed setup.wake setup.turns g events
 
-    -- the figures of that run, which the schedule of the seed picks, whichever is asked for
+    -- the figures of that run
     pub record AreFiguresOf (g : Shape) (setup : Setup) (seed : ℕ) (f : Figures) : Type 0 where
       pub events : List Event
       pub run : IsRunOf g setup seed events

@@ -91,6 +91,7 @@ fn seeded<P: FindsTree + Spoken + Measured>(
         alloc,
         copy,
         setup.wake,
+        setup.schedule_kind,
         seed,
         setup.turns,
         &mut meter,

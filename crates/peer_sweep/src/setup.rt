@@ -5,7 +5,7 @@ use peer_network::wake_set::WakeSet;
 /// What the runs of a sweep have in common.
 #[derive(Clone, Copy, Debug, PartialEq, Eq)]
 pub struct Setup {
-    /// Among which events their schedules pick. Only GHS has others than `Seeded`.
+    /// Among which events their schedules pick.
     pub schedule_kind: ScheduleKind,
     /// Which nodes wake by themselves.
     pub wake: WakeSet,

@@ -6,7 +6,7 @@ use Rattle.ghs_cli.proofs.sweeping.runs_of.Goals as goal
 
 pub loop-left-init : goal.loop-left-init
 loop-left-init g c = record {
-  runs = subst (λ (l : List Figures). AreRunsBy c.args.protocol c.args.graph.now (setup_of c.args.protocol c.args.options.now)
+  runs = subst (λ (l : List Figures). AreRunsBy c.args.protocol c.args.graph.now (setup_of c.args.options.now)
       c.args.options.now.seeds.first l)
       (sym c.new-runs.ensures.items) NoRun;
   all = search rules;

@@ -4,7 +4,7 @@ use Rattle.ghs_cli.proofs.sweeping.runs_of.Given as goal
 
 abbrev pub invariant-loop-left : goal.invariant-loop-left
 invariant-loop-left g l = record {
-  runs : AreRunsBy l.protocol l.graph (setup_of l.protocol l.options) l.options.seeds.first l.runs.items;
+  runs : AreRunsBy l.protocol l.graph (setup_of l.options) l.options.seeds.first l.runs.items;
   all : length l.runs.items + l.left ≡ l.count;
 }
 
