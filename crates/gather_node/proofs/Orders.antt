@@ -16,10 +16,7 @@ use Rattle.ghs_graph.proofs.lemmas.Keys.{lt_irreflexive}
 use Rattle.peer_network.proofs.lemmas.Graphs.{same_key}
 use Rattle.gather_node.specs.Forest.{follows, forest, is_link}
 use Rattle.gather_node.specs.Ordered.{AreInOrder, NoneFalls}
-use Rattle.gather_node.proofs.lemmas.Forest.{forest_one, lt_through}
-
-not_above_through : (j k l : Key) → key_lt k j ≡ false → key_lt l k ≡ false → key_lt l j ≡ false
-not_above_through j k l h i = grind (arith, nat_tests)
+use Rattle.gather_node.proofs.lemmas.Forest.{forest_one, lt_through, not_above_through}
 
 -- in a sorted list no key is above a later one
 sorted_pairs : (ks : List Key) → NoneFalls ks → (j n : ℕ) (d : Key) → j + n < length ks → key_lt (get_or ks (j + n) d) (get_or ks j d) ≡ false
@@ -32,7 +29,8 @@ sorted_pairs ks s j (suc n) d lt =
     (s (j + n) d (omega (arith, lt))))
 
 -- of the first keys none is above the next
-none_above : (ks : List Key) (i : ℕ) (k : Key) → NoneFalls ks → i < length ks → get_or ks i k ≡ k → (x : Key) → Contains (take i ks) x → key_lt k x ≡ false
+none_above : (ks : List Key) (i : ℕ) (k : Key) → NoneFalls ks → i < length ks → get_or ks i k ≡ k → (x : Key) → Contains (take i ks) x →
+    key_lt k x ≡ false
 none_above ks i k s lt e x h =
     let short : h.0 < i = omega (arith, h.1, length-take i ks) in
     let at : get_or ks h.0 x ≡ x = sym (get_or-take i ks h.0 x short) ∙ h.2 in

@@ -27,7 +27,7 @@ on_port_append i [] b = refl
 on_port_append i (s ∷ a) b =
     ap (λ (l : List Message). cond (s.0 == i) (s.1 ∷ l) l) (on_port_append i a b) ∙ cons_append (s.0 == i) s.1 (on_port i a) (on_port i b)
 
-cond_nil : (b : Bool) → ◌≡◌ {A = List Message} (cond b [] []) []
+pub cond_nil : (b : Bool) → ◌≡◌ {A = List Message} (cond b [] []) []
 cond_nil true = refl
 cond_nil false = refl
 
@@ -131,7 +131,8 @@ with_heard t heard v p m = put_at heard v p (heard v p ++ filter t (m ∷ []))
 first_split : (t : Message → Bool) (m : Message) (ms : List Message) → filter t (m ∷ ms) ≡ filter t (m ∷ []) ++ filter t ms
 first_split t m ms = filter-append t (m ∷ []) ms
 
-pub taken : (g : Network) (w : Net State Message) (t : Message → Bool) (sent heard : ℕ → ℕ → List Message) (v p : ℕ) (m : Message) (ms : List Message) →
+pub taken : (g : Network) (w : Net State Message) (t : Message → Bool) (sent heard : ℕ → ℕ → List Message) (v p : ℕ) (m : Message)
+    (ms : List Message) →
     w.queue v p ≡ m ∷ ms → Account g w t sent heard → Account g (take_first gather g v p m ms w) t sent (with_heard t heard v p m)
 taken g w t sent heard v p m ms e acc u q at = ⊎_elim here there (one_place v p u q)
   where

@@ -51,6 +51,10 @@ trees_are (Tree ks ∷ ms) = let h = trees_are ms in omega (arith, h)
 abbrev pub has_parent : State → ℕ
 has_parent n = cond (is_none n.head.parent) 0 1
 
+pub parent_once : (o : Option ℕ) → ◌≤◌ (cond (is_none o) 0 1) 1
+parent_once None = omega arith
+parent_once (Some x) = omega arith
+
 only_one : (n j : ℕ) (f : ℕ → ℕ) → j < n → ((k : ℕ) → k < n → k ≢ j → f k ≡ 0) → sum_below n f ≤ f j
 only_one zero j f lt e = absurd (omega (arith, lt))
 only_one (suc n) j f lt e = ⊎_elim here (there (λ l. only_one n j f l (λ k m ne. e k (omega (arith, m)) ne))) (cases_eq j n)
@@ -87,15 +91,15 @@ module _ (g : Network) (may : ℕ → Bool) (wired : IsWired g) (w : Net State M
       told_once (w.node v) + sum_below (length (g.ports v)) (λ p. of_kind gather 2 (w.queue v p)) ≤ has_parent (w.node v)
   at_node v net = by (w.node v).head.parent refl
     where
-      place : (p : ℕ) → p < length (g.ports v) → At g v p
-      place p lt = record { some = net.some; node = net.node; port = lt }
+      place : InNetwork g v → (p : ℕ) → p < length (g.ports v) → At g v p
+      place net p lt = record { some = net.some; node = net.node; port = lt }
 
       waits : (p : ℕ) → 1 ≤ of_kind gather 2 (w.queue v p) → filter is_tree (w.queue v p) ≢ []
       waits p le = long_some (filter is_tree (w.queue v p)) (let e = trees_are (w.queue v p) in omega (arith, le, e))
 
       elsewhere : (p : ℕ) → p < length (g.ports v) → ((w.node v).head.parent ≡ Some p → ⊥) → of_kind gather 2 (w.queue v p) ≡ 0
       elsewhere p lt ne = ⊎_elim (λ z. z)
-          (λ some. absurd (ne (own_parent g may wired w i t v p (place p lt) (waits p (omega (arith, some))))))
+          (λ some. absurd (ne (own_parent g may wired w i t v p (place net p lt) (waits p (omega (arith, some))))))
           (cases_eq (of_kind gather 2 (w.queue v p)) 0)
 
       at_parent : (p : ℕ) → p < length (g.ports v) → told_once (w.node v) + of_kind gather 2 (w.queue v p) ≤ 1
@@ -103,10 +107,10 @@ module _ (g : Network) (may : ℕ → Bool) (wired : IsWired g) (w : Net State M
           (λ z. let f = told_few (w.node v).head.halted (is_none (w.node v).head.parent) in omega (arith, z, f))
           (λ some.
           let s = waits p (omega (arith, some)) in
-          let f = one_tree_waits g may wired w i t v p (place p lt) s in
+          let f = one_tree_waits g may wired w i t v p (place net p lt) s in
           let e = trees_are (w.queue v p) in
           let h : told_once (w.node v) ≡ 0 =
-          ap (λ b. cond b (cond (is_none (w.node v).head.parent) 0 1) 0) (not_halted g may wired w i t v p (place p lt) s) in
+          ap (λ b. cond b (cond (is_none (w.node v).head.parent) 0 1) 0) (not_halted g may wired w i t v p (place net p lt) s) in
           omega (arith, f, e, h))
           (cases_eq (of_kind gather 2 (w.queue v p)) 0)
         where
@@ -159,10 +163,6 @@ module _ (g : Network) (may : ℕ → Bool) (wired : IsWired g) (w : Net State M
   parents_few : 1 ≤ g.count → suc (sum_over_nodes g (λ v. has_parent (w.node v))) ≤ g.count
   parents_few some = let l = some_leader some in let j = node_before l.0 l.1.some in go l.0 l.1 l.2 j.0 j.1
     where
-      one : (o : Option ℕ) → ◌≤◌ (cond (is_none o) 0 1) 1
-      one None = omega arith
-      one (Some x) = omega arith
-
       go : (v : ℕ) → InNetwork g v → (w.node v).head.parent ≡ None → (k : ℕ) → v ≡ suc k →
           suc (sum_over_nodes g (λ v. has_parent (w.node v))) ≤ g.count
       go v net none k e =
@@ -170,7 +170,7 @@ module _ (g : Network) (may : ℕ → Bool) (wired : IsWired g) (w : Net State M
           ap (λ x. has_parent (w.node x)) (sym e) ∙ ap (λ (o : Option ℕ). cond (is_none o) 0 1) none in
           let a =
           sum_less g.count k (λ x. has_parent (w.node (suc x))) (λ x. 1) (let h = net.node in omega (arith, e, h))
-          (λ x lt. one (w.node (suc x)).head.parent) (omega (arith, z)) in
+          (λ x lt. parent_once (w.node (suc x)).head.parent) (omega (arith, z)) in
           let b = sum_few g.count (λ x. 1) (λ x. omega arith) in
           omega (arith, a, b)
 

@@ -1,9 +1,9 @@
 -- The forest of a union: a list stands for a set of links, where it has links of the set alone and joins the ends of each by links that aren't above
 -- it. Then both have the same forest. A forest stands for its links, so lists may be made into forests one after another.
-use Rattle.std.proofs.Common.{◌≡◌, ⊎_elim, Bool, true, false, not, List, refl, ap, subst, arith}
+use Rattle.std.proofs.Common.{◌≡◌, ⊎_elim, Bool, true, false, not, List, ap, subst, arith}
 use Rattle.std.specs.Prelude.{filter, ◌↔◌}
 use Rattle.std.specs.List.{Contains}
-use Rattle.std.proofs.lemmas.Bool.{cases_Bool, both_ways}
+use Rattle.std.proofs.lemmas.Bool.{cases_Bool, both_ways, not-true}
 use Rattle.std.proofs.lemmas.Bool.Decides.{nat_tests}
 use Rattle.std.proofs.lemmas.List.Kept.{AllPairs-filter}
 use Rattle.ghs_graph.specs.declared.key.Key.{Key}
@@ -16,14 +16,11 @@ use Rattle.ghs_graph.proofs.lemmas.Keys.{lt_irreflexive}
 use Rattle.ghs_graph.proofs.lemmas.Members.{in_filter, filter_has}
 use Rattle.peer_network.proofs.lemmas.Graphs.{same_key}
 use Rattle.gather_node.specs.Forest.{forest, has, is_link, links_of}
-use Rattle.gather_node.proofs.lemmas.Forest.{forest_is, has_in, in_has, links_in_order}
+use Rattle.gather_node.proofs.lemmas.Forest.{forest_is, has_in, in_has, links_in_order, not_above_through}
 
 -- links of the list that aren't above k join its ends
 abbrev pub Bypassed : List Key → Key → Type 0
 Bypassed ks k = Joined (λ j. Contains ks j × (key_lt k j ≡ false)) k.a k.b
-
-not_above_through : (j k l : Key) → key_lt j k ≡ false → key_lt k l ≡ false → key_lt j l ≡ false
-not_above_through j k l h i = grind (arith, nat_tests)
 
 below_not_above : (i j k : Key) → key_lt i j ≡ true → key_lt k j ≡ false → key_lt k i ≡ false
 below_not_above i j k h l = grind (arith, nat_tests)
@@ -38,13 +35,14 @@ by_itself ks k h = Over k (h, lt_irreflexive k) Same
 -- a link that is bypassed by links that are bypassed
 pub bypassed_through : (ks js : List Key) (k : Key) → ((j : Key) → Contains ks j → Bypassed js j) → Bypassed ks k → Bypassed js k
 bypassed_through ks js k f way =
-    joined_through (λ j s. joined_within (λ x p. (p.0, not_above_through k j x s.1 p.1)) (f j s.0)) way
+    joined_through (λ j s. joined_within (λ x p. (p.0, not_above_through x j k p.1 s.1)) (f j s.0)) way
 
 -- the tree bypasses each link
 tree_bypasses : (ks t : List Key) → IsRising ks → IsTree ks t → (k : Key) → Contains ks k → Bypassed t k
 tree_bypasses ks t r is k h =
     joined_within within
-    (tree_joins some (tree some) (AllPairs-filter (λ i j. key_lt i j ≡ true) test ks r) (tree_is some (AllPairs-filter (λ i j. key_lt i j ≡ true) test ks r))
+    (tree_joins some (tree some) (AllPairs-filter (λ i j. key_lt i j ≡ true) test ks r)
+    (tree_is some (AllPairs-filter (λ i j. key_lt i j ≡ true) test ks r))
     k.a k.b (Over k (filter_has test ks k h (passes k (lt_irreflexive k))) Same))
   where
     test : Key → Bool
@@ -57,11 +55,7 @@ tree_bypasses ks t r is k h =
     passes j e = ap not e
 
     passed : (j : Key) → not (key_lt k j) ≡ true → key_lt k j ≡ false
-    passed j e = go (key_lt k j) e
-      where
-        go : (b : Bool) → not b ≡ true → b ≡ false
-        go true z = cc
-        go false z = refl
+    passed j e = not-true (key_lt k j) e
 
     within : (j : Key) → Contains (tree some) j → Contains t j × (key_lt k j ≡ false)
     within j s =

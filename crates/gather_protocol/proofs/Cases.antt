@@ -231,13 +231,20 @@ module _ (g : Network) (v : ℕ) (net : InNetwork g v) (s : Past) (n : State) (a
             (put_same s.awaits x (due (degree n) par))
             (ap (knows g v) (put_same s.brought x bs) ∙ ap (λ (ks : List Key). ks ++ links_to (length ks) bs) (sym a.fits.keys))
 
-        here : y ≡ x → sent_of g v (joined_past s (degree n) x clock par heard) y i ≡ sent_of g v s y i ++ filter (is_of y) (on_port i (joins_wave n x par).sends)
+        here : y ≡ x →
+            sent_of g v (joined_past s (degree n) x clock par heard) y i ≡
+            sent_of g v s y i ++ filter (is_of y) (on_port i (joins_wave n x par).sends)
         here e =
-            subst (λ z. sent_of g v (joined_past s (degree n) x clock par heard) z i ≡ sent_of g v s z i ++ filter (is_of z) (on_port i (joins_wave n x par).sends)) (sym e)
+            subst
+            (λ z.
+            sent_of g v (joined_past s (degree n) x clock par heard) z i ≡
+            sent_of g v s z i ++ filter (is_of z) (on_port i (joins_wave n x par).sends)) (sym e)
             (at_x ∙ sym (joins_own n x par i lt)
             ∙ ap (λ (l : List Message). l ++ filter (is_of x) (on_port i (joins_wave n x par).sends)) (sym before))
 
-        there : y ≢ x → sent_of g v (joined_past s (degree n) x clock par heard) y i ≡ sent_of g v s y i ++ filter (is_of y) (on_port i (joins_wave n x par).sends)
+        there : y ≢ x →
+            sent_of g v (joined_past s (degree n) x clock par heard) y i ≡
+            sent_of g v s y i ++ filter (is_of y) (on_port i (joins_wave n x par).sends)
         there ne =
             sent_alike (put s.joined x true y) (s.joined y) y (put s.parent x par y) (s.parent y) (put s.awaits x (due (degree n) par) y)
             (s.awaits y) (knows g v (put s.brought x bs y)) (knows g v (s.brought y)) i (put_other s.joined x y true ne)

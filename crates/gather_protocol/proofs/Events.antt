@@ -56,7 +56,7 @@ that_is (Some j) i h = ap Some (eqb-true j i h)
 
 -- What is owed and paid.
 
-owes_as : (m n : State) → SameStand m n → owes m ≡ owes n
+pub owes_as : (m n : State) → SameStand m n → owes m ≡ owes n
 owes_as m n e =
     ap (λ o. owed o m.head.parent m.head.awaits) e.wave ∙ ap (λ o. owed n.head.wave o m.head.awaits) e.parent
     ∙ ap (owed n.head.wave n.head.parent) e.awaits
@@ -64,7 +64,7 @@ owes_as m n e =
 owed_in : (n : State) (x : ℕ) → n.head.wave ≡ Some x → owes n ≡ back_owed n.head.parent n.head.awaits
 owed_in n x e = ap (λ o. owed o n.head.parent n.head.awaits) e
 
-owed_once : (par : Option ℕ) (k : ℕ) → back_owed par (suc k) ≡ back_owed par 1
+pub owed_once : (par : Option ℕ) (k : ℕ) → back_owed par (suc k) ≡ back_owed par 1
 owed_once None k = refl
 owed_once (Some q) k = refl
 
@@ -106,7 +106,8 @@ module _ (g : Network) (may : ℕ → Bool) (wired : IsWired g) where
     a = i.nodes v
 
     -- a node that enters a wave: who has joined then
-    entered_led : (x : ℕ) (par : Option ℕ) (heard : ℕ → ℕ → List Message) (st : Past) → st.joined ≡ put s.joined x true → st.parent ≡ put s.parent x par →
+    entered_led : (x : ℕ) (par : Option ℕ) (heard : ℕ → ℕ → List Message) (st : Past) → st.joined ≡ put s.joined x true →
+        st.parent ≡ put s.parent x par →
         st.rank ≡ put s.rank x i.clock → Entry g (λ u. (i.past u).joined) (λ u. (i.past u).parent) par v x →
         AreLed g (put i.past v st) (suc i.clock)
     entered_led x par heard st j p r e =
@@ -164,7 +165,8 @@ module _ (g : Network) (may : ℕ → Bool) (wired : IsWired g) where
 
       pub wakes : may v ≡ true → Waves g may (reacted gather g v (joins_wave n n.number None) w)
       wakes allow =
-          turned g may wired w i.past v net (joins_wave n n.number None) (subst (λ (b : Outcome State Message). are_on_ports gather g v b.sends ≡ true) (sym is) t)
+          turned g may wired w i.past v net (joins_wave n n.number None)
+          (subst (λ (b : Outcome State Message). are_on_ports gather g v b.sends ≡ true) (sym is) t)
           woken (suc i.clock)
           (entered_led x None s.heard woken refl refl refl (record {
             node = net;
@@ -178,7 +180,8 @@ module _ (g : Network) (may : ℕ → Bool) (wired : IsWired g) where
           (λ q at. let z = ap length (unheard x q at) in omega (arith, z)) (λ y q at h. h))
           (λ y u q at.
           i.over y u q at
-          ∙ ap (λ (h : ℕ → ℕ → List Message). h y q ++ filter (is_of y) (w.queue u q)) (sym (put_alike (λ (p : Past). p.heard) i.past v woken refl u)))
+          ∙ ap (λ (h : ℕ → ℕ → List Message). h y q ++ filter (is_of y) (w.queue u q))
+          (sym (put_alike (λ (p : Past). p.heard) i.past v woken refl u)))
           (joins_sends g v net s n a x i.clock None s.heard (joins_wave n n.number None).state (closed_stand _ x _ None _)
           (λ y j. absurd (nothing (a.least y j))) (λ q e. let z : ◌≡◌ {A = Option ℕ} None (Some q) = e in cc)
           (λ y q at ne. absurd (ne (unheard y q at))) summed (λ q at. ap list_in (unheard x q at))

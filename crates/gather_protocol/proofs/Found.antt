@@ -283,7 +283,8 @@ module _ (g : Shape) (w : Net State Message) (is : IsNetOf gather g w) where
         go (Some p) e = absurd (let l = i.led.later u x p j e in omega (arith, l, le))
     up (suc r) u le j k b = go (λ f l jf b'. up r f l jf k b') ((i.past u).parent x) refl
       where
-        go : ((f : ℕ) → (i.past f).rank x ≤ r → In f → Bypassed (K f) k → Bypassed (K x) k) → (o : Option ℕ) → (i.past u).parent x ≡ o → Bypassed (K x) k
+        go : ((f : ℕ) → (i.past f).rank x ≤ r → In f → Bypassed (K f) k → Bypassed (K x) k) → (o : Option ℕ) →
+            (i.past u).parent x ≡ o → Bypassed (K x) k
         go ih None e = subst (λ y. Bypassed (K y) k) (i.led.first u x j e) b
         go ih (Some p) e =
             let at = (i.led.ups u x p j e).at in
@@ -404,14 +405,11 @@ module _ (g : Shape) (w : Net State Message) (is : IsNetOf gather g w) where
       let l = t.leader v h in
       marks_right l.0 (leads_done n anyone wired w i t l.0 l.2) v j ((i.nodes v).now l.0 l.1).joined h at
 
-  pub other_marks : (v j : ℕ) → (w.node v).head.halted ≡ false → get_or (w.node v).branches j false ≡ false
-  other_marks v j h = t.unmarked v j h
-
 pub halted_mark_trees : HaltedMarkTrees
 halted_mark_trees g w is v j at h = halted_marks g w is v j h at
 
 pub others_mark_none : OthersMarkNone
-others_mark_none g w is v j h = other_marks g w is v j h
+others_mark_none g w is v j h = (trees_of g w is).unmarked v j h
 
 -- silence is the end
 pub silence_ends : SilenceEnds

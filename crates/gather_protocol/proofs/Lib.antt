@@ -19,3 +19,4 @@ mod Awake
 mod Silence
 mod Bypass
 mod Found
+mod Exact

@@ -20,7 +20,7 @@ use Rattle.gather_node.specs.Gather.{gather}
 use Rattle.gather_node.specs.State.{State}
 use Rattle.gather_protocol.specs.Bound.{wakers_in}
 use Rattle.gather_protocol.specs.Laws.{SendsWithinPieces}
-use Rattle.gather_protocol.proofs.Bound.{has_parent, trees_by_parents, waves_few}
+use Rattle.gather_protocol.proofs.Bound.{has_parent, parent_once, trees_by_parents, waves_few}
 use Rattle.gather_protocol.proofs.Events.{after_waves}
 use Rattle.gather_protocol.proofs.TreeEvents.{after_trees}
 use Rattle.gather_protocol.proofs.Waves.{Waves}
@@ -32,7 +32,9 @@ few_by Q n [] f most rise one each = let a = sum_few n f most in omega (arith, a
 few_by Q n (r ∷ rs) f most rise one each =
     let e = each r (first_in r rs) in
     let p = e.0 in
-    let a = few_by Q n rs (put f p 1) few (λ i j d lt jl. rise (suc i) (suc j) d (omega arith) (omega arith)) one (rest p e.2 (λ s h. each s (later_in r s rs h))) in
+    let a =
+    few_by Q n rs (put f p 1) few (λ i j d lt jl. rise (suc i) (suc j) d (omega arith) (omega arith)) one
+    (rest p e.2 (λ s h. each s (later_in r s rs h))) in
     let b = sum_one n p f (put f p 1) e.1 (λ i ne. sym (put_other f p i 1 ne)) in
     let c = put_same f p 1 in
     let z = e.3 in
@@ -58,8 +60,12 @@ module _ (g : Shape) (ok : IsGraph g) (may : ℕ → Bool) (w : Net State Messag
       let k = (port_at (network_of g) v p).key in
       let h = is_key g ok v p at in
       ⊎_elim
-      (λ e. subst (λ y. Joined (links g.keys) y (far (network_of g) v p)) (sym e.0) (subst (λ y. Joined (links g.keys) k.a y) (sym e.1) (Over k h Same)))
-      (λ e. subst (λ y. Joined (links g.keys) y (far (network_of g) v p)) (sym e.0) (subst (λ y. Joined (links g.keys) k.b y) (sym e.1) (Back k h Same)))
+      (λ e.
+      subst (λ y. Joined (links g.keys) y (far (network_of g) v p)) (sym e.0)
+      (subst (λ y. Joined (links g.keys) k.a y) (sym e.1) (Over k h Same)))
+      (λ e.
+      subst (λ y. Joined (links g.keys) y (far (network_of g) v p)) (sym e.0)
+      (subst (λ y. Joined (links g.keys) k.b y) (sym e.1) (Back k h Same)))
       (port_ends g ok v p at)
 
   -- who has joined a wave is joined with the node that began it
@@ -130,7 +136,7 @@ module _ (g : Shape) (ok : IsGraph g) (may : ℕ → Bool) (w : Net State Messag
   parents_by_pieces c h =
       let a =
       few_by (λ r p. IsRoot g.keys r r × Joined (links g.keys) r (suc p)) g.nodes h.leasts (λ p. has_parent (w.node (suc p)))
-      (λ p. one (w.node (suc p)).head.parent) h.rising
+      (λ p. parent_once (w.node (suc p)).head.parent) h.rising
       (λ r s p a b.
       let way = joined_then a.1 (joined_back b.1) in
       let x = a.0.least s way in
@@ -140,10 +146,6 @@ module _ (g : Shape) (ok : IsGraph g) (may : ℕ → Bool) (w : Net State Messag
       let n = h.number in
       omega (arith, a, n)
     where
-      one : (o : Option ℕ) → ◌≤◌ (cond (is_none o) 0 1) 1
-      one None = omega arith
-      one (Some x) = omega arith
-
       each : (r : ℕ) → Contains h.leasts r →
           (p : ℕ) × (p < g.nodes) × (IsRoot g.keys r r × Joined (links g.keys) r (suc p)) × (has_parent (w.node (suc p)) ≡ 0)
       each r m =

@@ -10,7 +10,7 @@ use Rattle.gather_node.specs.declared.message.Message.TheVariants.{Explore, Back
 use Rattle.gather_node.specs.Forest.{common, forest}
 use Rattle.gather_node.specs.Reaction.{closed, due, explores, in_wave, joins_wave, tree_at, trees}
 use Rattle.gather_node.specs.State.{State, degree, is_that, known}
-use Rattle.gather_protocol.proofs.Accounts.{on_port, on_port_append}
+use Rattle.gather_protocol.proofs.Accounts.{cond_nil, on_port, on_port_append}
 
 -- messages of wave x, and those of the tree
 abbrev pub is_of : ℕ → Message → Bool
@@ -177,11 +177,7 @@ replied_no_tree x parent awaits ks i = go (is_that parent i) awaits
 
 -- where something waits still, nothing was replied
 pub not_replied : (x : ℕ) (parent : Option ℕ) (k : ℕ) (ks : List Key) (i : ℕ) → ◌≡◌ {A = List Message} (replied x parent (suc k) ks i) []
-not_replied x parent k ks i = go (is_that parent i)
-  where
-    go : (b : Bool) → ◌≡◌ {A = List Message} (cond b [] []) []
-    go true = refl
-    go false = refl
+not_replied x parent k ks i = cond_nil (is_that parent i)
 
 -- What a closing sends.
 

@@ -232,7 +232,8 @@ module _ (g : Shape) (w : Net State Message) (is : IsNetOf gather g w) (silent :
   awake_halts v net None e h = absurd (true≢false h)
   awake_halts v net (Some x) e h = halts x ((i.past v).rank x) v net e (omega arith)
 
-  wakes_all : {u v : ℕ} → Joined (links g.keys) u v → (o : Option ℕ) → (w.node u).head.wave ≡ o → is_none o ≡ false → gather.is_asleep (w.node v) ≡ false
+  wakes_all : {u v : ℕ} → Joined (links g.keys) u v → (o : Option ℕ) → (w.node u).head.wave ≡ o → is_none o ≡ false →
+      gather.is_asleep (w.node v) ≡ false
   wakes_all way None e h = absurd (true≢false h)
   wakes_all way (Some x) e h = ap is_none (one_wave_here x way e)
 

@@ -368,7 +368,8 @@ module _ (g : Network) (may : ℕ → Bool) (wired : IsWired g) (w : Net State M
             let d = degree_is g v n a.fits in
             let l = here.port in
             sym (ap (filter is_tree) (told_on ks (degree n) j n.brought (omega (arith, d, l))) ∙ tree_of_all ks (get_or n.brought j None))
-            ∙ ap (λ b. cond b (tree_of (t.tree v) (get_or n.brought j None)) [] ++ filter is_tree (on_port j (told n ks []).sends)) (sym (not_halted v p at some)))
+            ∙ ap (λ b. cond b (tree_of (t.tree v) (get_or n.brought j None)) [] ++ filter is_tree (on_port j (told n ks []).sends))
+            (sym (not_halted v p at some)))
             (λ x y. (x, y)) (λ h. ((led v p at some).0, own_wave v p at some, inr (led v p at some).2)) (λ h. refl)
             (λ q h e. subst (λ b. (w.node (far g v b)).head.halted ≡ true) (same_Some _ _ (sym (own_parent v p at some) ∙ e)) (teller v p at some).0)
             (λ b q here ne. ⊎_elim (λ z. inr (z.0, refl))

@@ -109,3 +109,10 @@ SilenceEnds = SilenceIsEnd gather HasEnded
 -- then the Branch links are the minimum spanning forest
 abbrev pub BranchesAreTree : Type 0
 BranchesAreTree = BranchesAreFound gather HasEnded marks_branch (λ g ks. IsTree g.keys ks)
+
+-- where one node wakes by itself, just so many messages were sent then as may be
+abbrev pub OneSendsJust : Type 0
+OneSendsJust =
+    (g : Shape) (v : ℕ) (es : List Event) (w : Net State Message) → IsGraph g → InNetwork (network_of g) v →
+    All (MayWake (λ u. u == v)) es → IsAfter gather (network_of g) es w → HasEnded g w →
+    in_all gather w.sent ≡ 2 * length g.keys + (g.nodes - 1)

@@ -1,7 +1,7 @@
 //! What holds in every run of every graph, however its events interleave and whoever wakes. Each law is a function that does
 //! nothing.
 ghost use Rattle.gather_protocol.specs.Bound.{bound_of};
-ghost use Rattle.gather_protocol.specs.Laws.{BranchesAreTree, EventsHaveRules, HaltedMarkTrees, MessagesHaveKinds, NodesKeepPorts, NodesStayAwake, NoneIsDeferred, OneSends, OthersMarkNone, RunsAreShort, SendsWithinBound, SendsWithinPieces, SendsWithinWakers, SilenceEnds, SilenceHalts, SilenceWakes};
+ghost use Rattle.gather_protocol.specs.Laws.{BranchesAreTree, EventsHaveRules, HaltedMarkTrees, MessagesHaveKinds, NodesKeepPorts, NodesStayAwake, NoneIsDeferred, OneSends, OneSendsJust, OthersMarkNone, RunsAreShort, SendsWithinBound, SendsWithinPieces, SendsWithinWakers, SilenceEnds, SilenceHalts, SilenceWakes};
 ghost use Rattle.peer_machine.specs.Protocol.{FitsGraphs};
 
 /// Each node keeps its number and the keys of its ports.
@@ -35,9 +35,10 @@ pub fn law_pieces()
     ensures { SendsWithinPieces }
 {}
 
-/// Where one node may, at most 2E + N - 1.
+/// Where one node may, at most 2E + N - 1, and at the end just so many.
 pub fn law_one_waker()
-    ensures { OneSends }
+    ensures most { OneSends }
+    ensures just { OneSendsJust }
 {}
 
 /// No run sends more messages than the bound, 2E·N + N - 1.

@@ -19,6 +19,9 @@ use Rattle.gather_node.specs.Ordered.{AreInOrder}
 pub lt_through : (j k l : Key) → key_lt j k ≡ true → key_lt k l ≡ true → key_lt j l ≡ true
 lt_through j k l h i = grind (arith, nat_tests)
 
+pub not_above_through : (j k l : Key) → key_lt k j ≡ false → key_lt l k ≡ false → key_lt l j ≡ false
+not_above_through j k l h i = grind (arith, nat_tests)
+
 -- Whether a list has a key.
 
 same_true : (j k : Key) → is_same j k ≡ true → j ≡ k
@@ -69,7 +72,8 @@ insert_in : (k : Key) (js : List Key) (x : Key) → Contains (insert k js) x →
 insert_in k [] x h = in_cases k x [] h
 insert_in k (j ∷ js) x h = go (λ o. insert_in k js x o) (key_lt k j) (key_lt j k) h
   where
-    go : (Contains (insert k js) x → Contains js x ⊎ (k ≡ x)) → (b c : Bool) → Contains (cond b (k ∷ j ∷ js) (cond c (j ∷ insert k js) (j ∷ js))) x → Contains (j ∷ js) x ⊎ (k ≡ x)
+    go : (Contains (insert k js) x → Contains js x ⊎ (k ≡ x)) → (b c : Bool) →
+        Contains (cond b (k ∷ j ∷ js) (cond c (j ∷ insert k js) (j ∷ js))) x → Contains (j ∷ js) x ⊎ (k ≡ x)
     go ih true c z = in_cases k x (j ∷ js) z
     go ih false true z =
         ⊎_elim (λ o. ⊎_elim (λ a. inl (later_in j x js a)) inr (ih o))
@@ -90,7 +94,8 @@ insert_new : (k : Key) (js : List Key) → Contains (insert k js) k
 insert_new k [] = first_in k []
 insert_new k (j ∷ js) = go (insert_new k js) (key_lt k j) refl (key_lt j k) refl
   where
-    go : Contains (insert k js) k → (b : Bool) → key_lt k j ≡ b → (c : Bool) → key_lt j k ≡ c → Contains (cond b (k ∷ j ∷ js) (cond c (j ∷ insert k js) (j ∷ js))) k
+    go : Contains (insert k js) k → (b : Bool) → key_lt k j ≡ b → (c : Bool) → key_lt j k ≡ c →
+        Contains (cond b (k ∷ j ∷ js) (cond c (j ∷ insert k js) (j ∷ js))) k
     go ih true p c q = first_in k (j ∷ js)
     go ih false p true q = later_in j k (insert k js) ih
     go ih false p false q = subst (λ (y : Key). Contains (j ∷ js) y) (same_key j k q p) (first_in j js)
@@ -99,7 +104,8 @@ insert_rises : (k : Key) (js : List Key) → IsRising js → IsRising (insert k 
 insert_rises k [] r = rises k [] (λ y h. absurd (nothing_in y h)) r
 insert_rises k (j ∷ js) r = go (insert_rises k js (tail_rises j js r)) (key_lt k j) refl (key_lt j k) refl
   where
-    go : IsRising (insert k js) → (b : Bool) → key_lt k j ≡ b → (c : Bool) → key_lt j k ≡ c → IsRising (cond b (k ∷ j ∷ js) (cond c (j ∷ insert k js) (j ∷ js)))
+    go : IsRising (insert k js) → (b : Bool) → key_lt k j ≡ b → (c : Bool) → key_lt j k ≡ c →
+        IsRising (cond b (k ∷ j ∷ js) (cond c (j ∷ insert k js) (j ∷ js)))
     go ih true p c q =
         rises k (j ∷ js)
         (λ y h.
