@@ -20,7 +20,7 @@ use std::alloc::{AllocError, Global};
 /// so far, and the event that was refused comes next again.
 ///
 /// ```text
-/// let mut world = World::<Echo>::open(alloc, graph, WakeSet::First)?;
+/// let mut world = World::<Echo>::open(alloc, (), graph, WakeSet::First)?;
 /// let (rounds, end) = run_rounds(alloc, &mut world, &mut Schedule::seeded(7), 1 << 40);
 /// // on the path 1-2-3 end is Ok and rounds is 4: two messages out, and two back
 /// ```
