@@ -57,7 +57,7 @@ fn put_by_node<P: Ends + Spoken>(
 ) -> Result<(), AllocError>
     ensures { IfOk result (λ _. (lines : List ℕ) × IsPrinted P.rules P.words P.has_ended (λ es. node_lines form front.now seed columns.now (node_parts P.rules P.words graph.now es)) graph.now setup seed lines × (text.new.items ≡ text.old.items ++ lines)) }
 {
-    let mut parts = NodeParts::none::<P>(alloc, graph)?;
+    let mut parts = NodeParts::none::<P>(alloc, P::setting(), graph)?;
     let copy = graph.copy(alloc)?;
     run_followed_by_seed::<P, NodeParts>(alloc, copy, setup.wake, seed, setup.turns, &mut parts)?;
     put_nodes(text, form, front, seed, columns, parts.all())
