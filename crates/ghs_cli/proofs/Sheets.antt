@@ -1,9 +1,8 @@
 -- Sheets of sweeps.
-use Rattle.std.proofs.Common.{◌≡◌, ◌++◌, ◌+◌, ◌<◌, ◌≤◌, ◌∙◌, Bool, List, ℕ, [], ◌∷◌, None, Option, Some, ap, append_assoc, length, refl, subst, sym, take}
+use Rattle.std.proofs.Common.{◌≡◌, ◌++◌, ◌+◌, ◌<◌, ◌≤◌, ◌∙◌, Bool, List, ℕ, [], ◌∷◌, ap, append_assoc, length, refl, subst, sym, take}
 use Rattle.std.specs.List.{slice_index_or}
 use Rattle.std.proofs.lemmas.List.{take_all, take_more}
 use Rattle.ghs_graph.specs.Graph.{Shape}
-use Rattle.ghs_choices.specs.declared.by.By.{By}
 use Rattle.peer_sweep.specs.declared.figures.Figures.{Figures}
 use Rattle.peer_sweep.specs.declared.setup.Setup.{Setup}
 use Rattle.peer_sweep.specs.Front.{bare_front}
@@ -13,11 +12,11 @@ use Rattle.peer_sweep.specs.Columns.{Layout}
 use Rattle.peer_trace.specs.declared.protocol.Protocol.{Protocol}
 use Rattle.peer_trace.specs.declared.protocol.Protocol.TheVariants.{Ghs}
 use Rattle.ghs_cli.specs.Fronts.{front_by, says_protocol}
-use Rattle.ghs_cli.specs.Swept.{AreRunsBy, by_of, layout_by, setup_of}
+use Rattle.ghs_cli.specs.Swept.{AreRunsBy, layout_by, setup_of}
 use Rattle.ghs_commands.specs.declared.job.Sheet.{Sheet}
 use Rattle.ghs_commands.specs.declared.job.Sheet.TheVariants.{Runs, Summary}
 use Rattle.ghs_commands.specs.declared.job.SweepOptions.{SweepOptions}
-use Rattle.ghs_cli.specs.Sweeping.{AreLines, AreLinesBy, AreLinesByEach, ArePartedRuns, AreSheetLines, AreSweptLines, IsSwept, NextProtocol, count_of, heads_of}
+use Rattle.ghs_cli.specs.Sweeping.{AreLines, AreLinesBy, AreLinesByEach, AreSheetLines, AreSweptLines, IsSwept, NextProtocol, count_of, heads_of}
 
 -- lines of runs behind a text, where these are asked for
 pub runs_behind : (o : SweepOptions) (front : List ℕ) (l : Layout) (setup : Setup) (runs : List Figures) (old new : List ℕ) →
@@ -60,34 +59,32 @@ sheet_is_swept p o front g l setup all runs old new laid same_setup same are cou
 )
 
 -- where the lines by the first protocols stand behind a text, and then those by the next, those by one more do
-pub one_protocol_more : (ps : List Protocol) (says : Bool) (by : Option By) (o : SweepOptions) (front own : List ℕ) (g : Shape) (i : ℕ) (p : Protocol)
+pub one_protocol_more : (ps : List Protocol) (says : Bool) (o : SweepOptions) (front own : List ℕ) (g : Shape) (i : ℕ) (p : Protocol)
     (old text new : List ℕ) →
     p ≡ slice_index_or ps i Ghs →
     i < length ps →
     own ≡ front_by says o.form front p →
-    (lines : List ℕ) × AreLinesByEach says by o front g (take i ps) lines × (text ≡ old ++ lines) →
-    (lines : List ℕ) × AreLines p by o own g lines × (new ≡ text ++ lines) →
-    (lines : List ℕ) × AreLinesByEach says by o front g (take (i + 1) ps) lines × (new ≡ old ++ lines)
-one_protocol_more ps says by o front own g i p old text new is within begun (lines, before, first) (more, next, last) = (
+    (lines : List ℕ) × AreLinesByEach says o front g (take i ps) lines × (text ≡ old ++ lines) →
+    (lines : List ℕ) × AreLines says p o.by o own g lines × (new ≡ text ++ lines) →
+    (lines : List ℕ) × AreLinesByEach says o front g (take (i + 1) ps) lines × (new ≡ old ++ lines)
+one_protocol_more ps says o front own g i p old text new is within begun (lines, before, first) (more, next, last) = (
   lines ++ more,
-  subst (λ (l : List Protocol). AreLinesByEach says by o front g l (lines ++ more))
+  subst (λ (l : List Protocol). AreLinesByEach says o front g l (lines ++ more))
       (ap (λ (q : Protocol). take i ps ++ q ∷ []) is ∙ sym (take_more ps i Ghs within))
-      (NextProtocol (take i ps) p lines more before (subst (λ (f : List ℕ). AreLines p by o f g more) begun next)),
+      (NextProtocol (take i ps) p lines more before (subst (λ (f : List ℕ). AreLines says p o.by o f g more) begun next)),
   last ∙ (ap (λ (t : List ℕ). t ++ more) first ∙ append_assoc old lines more),
 )
 
 -- with those by the last they are all
-pub all_lines : (ps : List Protocol) (says : Bool) (by : Option By) (o : SweepOptions) (front : List ℕ) (g : Shape) (i : ℕ) (old new : List ℕ) →
-    says ≡ says_protocol o.sheet ps →
-    by ≡ by_of ps o →
+pub all_lines : (ps : List Protocol) (says : Bool) (o : SweepOptions) (front : List ℕ) (g : Shape) (i : ℕ) (old new : List ℕ) →
+    says ≡ says_protocol o.sheet o.by ps →
     length ps ≤ i →
-    (lines : List ℕ) × AreLinesByEach says by o front g (take i ps) lines × (new ≡ old ++ lines) →
+    (lines : List ℕ) × AreLinesByEach says o front g (take i ps) lines × (new ≡ old ++ lines) →
     (lines : List ℕ) × AreLinesBy ps o front g lines × (new ≡ old ++ lines)
-all_lines ps says by o front g i old new same same_by past (lines, each, printed) = (
+all_lines ps says o front g i old new same past (lines, each, printed) = (
   lines,
-  subst (λ (b : Option By). AreLinesByEach (says_protocol o.sheet ps) b o front g ps lines) same_by
-      (subst (λ (s : Bool). AreLinesByEach s by o front g ps lines) same
-      (subst (λ (l : List Protocol). AreLinesByEach says by o front g l lines) (take_all i ps past) each)),
+  subst (λ (s : Bool). AreLinesByEach s o front g ps lines) same
+      (subst (λ (l : List Protocol). AreLinesByEach says o front g l lines) (take_all i ps past) each),
   printed,
 )
 
@@ -102,19 +99,3 @@ swept_behind ps o g front old new bare head (lines, are, printed) = record {
   are = subst (λ (f : List ℕ). AreLinesBy ps o f g lines) bare are;
   printed = printed ∙ ap (λ (h : List ℕ). h ++ lines) head;
 }
-
--- the lines of runs, where no parts are asked for
-pub lines_of_runs : (p : Protocol) (o : SweepOptions) (by : Option By) (front : List ℕ) (g : Shape) (old new : List ℕ) →
-    by ≡ None →
-    (lines : List ℕ) × AreSweptLines p o front g lines × (new ≡ old ++ lines) →
-    (lines : List ℕ) × AreLines p by o front g lines × (new ≡ old ++ lines)
-lines_of_runs p o by front g old new is (lines, are, printed) =
-    (lines, subst (λ (b : Option By). AreLines p b o front g lines) (sym is) are, printed)
-
--- and those of their parts
-pub lines_of_parts : (p : Protocol) (o : SweepOptions) (by : Option By) (part : By) (front : List ℕ) (g : Shape) (old new : List ℕ) →
-    by ≡ Some part →
-    (lines : List ℕ) × ArePartedRuns o part front g o.seeds.first (count_of o) lines × (new ≡ old ++ lines) →
-    (lines : List ℕ) × AreLines p by o front g lines × (new ≡ old ++ lines)
-lines_of_parts p o by part front g old new is (lines, are, printed) =
-    (lines, subst (λ (b : Option By). AreLines p b o front g lines) (sym is) are, printed)

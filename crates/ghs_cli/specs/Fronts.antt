@@ -1,5 +1,6 @@
 -- What lines and panels say of their protocol, where several are swept.
-use Rattle.std.specs.Prelude.{ℕ, Bool, true, false, codes, nat_le, List, [], ◌∷◌, ◌++◌, length}
+use Rattle.std.specs.Prelude.{ℕ, Bool, true, false, codes, nat_le, List, [], ◌∷◌, ◌++◌, length, Option, Some, None}
+use Rattle.ghs_choices.specs.declared.by.By.{By}
 use Rattle.ghs_choices.specs.declared.form.Form.{Form}
 use Rattle.ghs_choices.specs.declared.form.Form.TheVariants.{Text, Json}
 use Rattle.ghs_commands.specs.declared.job.Sheet.{Sheet}
@@ -11,11 +12,12 @@ use Rattle.peer_words.specs.Json.{member, quoted}
 abbrev pub are_several : List Protocol → Bool
 are_several ps = nat_le 2 (length ps)
 
--- lines of runs have a column of protocols; those of summaries begin with theirs, where there are several
-abbrev pub says_protocol : Sheet → List Protocol → Bool
-says_protocol Runs ps = false
-says_protocol Summary ps = are_several ps
-says_protocol Chart ps = false
+-- lines of runs have a column of protocols; those of their parts and of summaries begin with theirs, where there are several
+abbrev pub says_protocol : Sheet → Option By → List Protocol → Bool
+says_protocol Runs None ps = false
+says_protocol Runs (Some by) ps = are_several ps
+says_protocol Summary by ps = are_several ps
+says_protocol Chart by ps = false
 
 -- the name of that column, and a comma; lines of JSON say it with each name
 abbrev pub protocol_head : Bool → Form → List ℕ

@@ -8,6 +8,7 @@ pub mod Fault
 pub mod Fronts
 pub mod Judging
 pub mod Networks
+pub mod Parted
 pub mod Printing
 pub mod Running
 pub mod Serving

@@ -1,5 +1,5 @@
 -- How each protocol is swept. A further protocol has a line in each definition by protocols here.
-use Rattle.std.specs.Prelude.{◌≡◌, ℕ, List, [], ◌∷◌, Option, None, codes, length}
+use Rattle.std.specs.Prelude.{◌≡◌, ℕ, Bool, true, false, List, [], ◌∷◌, codes, length}
 use Rattle.ghs_graph.specs.Bound.{IsBound}
 use Rattle.ghs_graph.specs.Graph.{Shape}
 use Rattle.ghs_choices.specs.declared.by.By.{By}
@@ -13,14 +13,21 @@ use Rattle.boruvka_protocol.specs.Bound.{bound_of}
 use Rattle.echo.specs.Echo as wave
 use Rattle.echo.specs.Ended as wave_end
 use Rattle.echo.specs.Words as wave_words
+use Rattle.ghs_cli.specs.Parted.{IsPartedByGhs}
 use Rattle.ghs_sweep.specs.Measure.{about_ghs}
 use Rattle.ghs_sweep.specs.Sweep as ghs
+use Rattle.peer_machine.specs.Net.{Net}
+use Rattle.peer_machine.specs.Rules.{Rules}
+use Rattle.peer_parts.specs.Columns.{columns_by, names_of}
+use Rattle.peer_parts.specs.Seeded.{IsPartedRun}
+use Rattle.peer_parts.specs.declared.columns.Column.{Column}
 use Rattle.peer_sweep.specs.About.{About}
 use Rattle.peer_sweep.specs.Columns.{Layout, layout_of}
 use Rattle.peer_sweep.specs.Runs as rules
 use Rattle.peer_sweep.specs.Sweep.{AreRuns}
 use Rattle.peer_sweep.specs.declared.figures.Figures.{Figures}
 use Rattle.peer_sweep.specs.declared.setup.Setup.{Setup}
+use Rattle.peer_words.specs.Words.{Words}
 
 -- the names of the columns of kinds of messages: those of GHS, and behind them those that only others have
 abbrev pub kind_columns : List (List ℕ)
@@ -66,7 +73,22 @@ IsBoundBy protocol.Echo g n = n ≡ wave.bound_of g
 abbrev pub setup_of : SweepOptions → Setup
 setup_of o = record { schedule_kind = o.schedule_kind; wake = o.wake; turns = o.turns }
 
--- by which parts messages are counted: sweeps by GHS alone have any
-abbrev pub by_of : List Protocol → SweepOptions → Option By
-by_of (protocol.Ghs ∷ []) o = o.by
-by_of _ o = None
+-- the names of the kinds of messages that have columns by parts: the protocol's own, or where there are several protocols those of all
+abbrev pub part_names : Bool → Protocol → List (List ℕ)
+part_names true p = kind_columns
+part_names false p = names_of (about_of p)
+
+-- the columns of the counts of its parts
+abbrev pub part_columns : Bool → Protocol → By → List Column
+part_columns several p by = columns_by by (about_of p) (part_names several p)
+
+-- the lines of the parts of the run of a graph by a seed, by rules
+abbrev pub IsPartedByRules : {S M : Type 0} → Rules S M → Words S M → (Shape → Net S M → Type 0) → SweepOptions → By →
+    List Column → List ℕ → Shape → ℕ → List ℕ → Type 0
+IsPartedByRules r words has_ended o by columns front g = IsPartedRun r words has_ended o.form front by columns g (setup_of o)
+
+-- and by a protocol
+abbrev pub IsPartedBy : Protocol → SweepOptions → By → List Column → List ℕ → Shape → ℕ → List ℕ → Type 0
+IsPartedBy protocol.Ghs = IsPartedByGhs
+IsPartedBy protocol.Boruvka = IsPartedByRules boruvka words HasEnded
+IsPartedBy protocol.Echo = IsPartedByRules wave.echo wave_words.words wave_end.HasEnded

@@ -2,6 +2,7 @@
 ghost use Rattle.ghs_cli.specs.Fronts.{are_several, front_by, panel_name, protocol_field, protocol_head, says_protocol};
 ghost use Rattle.std.specs.Prelude.{◌≡◌, ◌++◌, IfOk, string_bytes};
 
+use ghs_choices::by::By;
 use ghs_choices::form::Form;
 use ghs_commands::job::Sheet;
 use peer_trace::protocol::Protocol;
@@ -14,14 +15,14 @@ pub(crate) fn are_several(protocols: &[Protocol]) -> bool
     protocols.len() >= 2
 }
 
-/// Whether lines begin with their protocol: those of runs have a column of protocols, and a summary needs one where there
-/// are several.
-pub(crate) fn says_protocol(sheet: Sheet, protocols: &[Protocol]) -> bool
-    ensures { result ≡ says_protocol sheet protocols.now }
+/// Whether lines begin with their protocol: those of runs have a column of protocols, and those of their parts and a summary
+/// need one where there are several.
+pub(crate) fn says_protocol(sheet: Sheet, by: Option<By>, protocols: &[Protocol]) -> bool
+    ensures { result ≡ says_protocol sheet by protocols.now }
 {
-    match sheet {
-        Sheet::Summary => are_several(protocols),
-        Sheet::Runs | Sheet::Chart => false,
+    match (sheet, by) {
+        (Sheet::Runs, None) | (Sheet::Chart, _) => false,
+        (Sheet::Runs, Some(_)) | (Sheet::Summary, _) => are_several(protocols),
     }
 }
 

@@ -2,8 +2,9 @@
 ghost use Rattle.ghs_commands.specs.Job.{AreSweepLimits};
 ghost use Rattle.ghs_cli.specs.Charts.{IsSweepText};
 ghost use Rattle.ghs_cli.specs.Serving.{IsGraphCause, IsOfText, is_write};
-ghost use Rattle.ghs_cli.specs.Swept.{AreRunsBy, setup_of};
-ghost use Rattle.ghs_cli.specs.Sweeping.{AreLines, AreLinesBy, AreSheetLines, AreSweptLines, IsSwept, count_of, head_by, head_of, heads_of};
+ghost use Rattle.ghs_cli.specs.Swept.{AreRunsBy, part_columns, setup_of};
+ghost use Rattle.ghs_cli.specs.Sweeping.{AreLines, AreLinesBy, AreSheetLines, AreSweptLines, IsSwept, count_of, first_of, head_by, head_of, heads_of};
+ghost use Rattle.peer_parts.specs.Line.{head_line as part_head};
 ghost use Rattle.peer_sweep.specs.Figures.{LeavesRoom};
 ghost use Rattle.ghs_cli.specs.declared.fault.ServeFault.{ServeFault};
 ghost use Rattle.std.specs.Prelude.{◌≡◌, ◌≤◌, ◌++◌, ◌↔◌, All, List, ℕ, false, length, true, IfErr, IfOk, IfSome, IsErrOf};
@@ -11,17 +12,17 @@ ghost use Rattle.std.specs.Prelude.{◌≡◌, ◌≤◌, ◌++◌, ◌↔◌, A
 use crate::charting::nameless_chart;
 use crate::fault::ServeFault;
 use crate::fronts::{front_by, protocol_head, says_protocol};
-use crate::parting::put_parted;
+use crate::parting::{Parting, put_parted};
 use crate::progress::tell_seeds;
 use crate::reading::graph_of;
-use crate::swept::{by_of, run_seeds_by, setup_of, table_by};
+use crate::swept::{part_columns, run_seeds_by, setup_of, table_by};
 use ghs_choices::by::By;
 use ghs_choices::form::Form;
 use ghs_commands::job::{Sheet, SweepOptions};
 use ghs_commands::values::Seeds;
 use ghs_gr::device::Source;
 use ghs_graph::graph::Graph;
-use ghs_parts::line::head_line;
+use peer_parts::line as part_line;
 use peer_sweep::figures::Figures;
 use peer_sweep::front::bare_front;
 use peer_sweep::line::put_head;
@@ -100,25 +101,51 @@ pub(crate) fn put_heads(
     ensures { IfOk result (λ _. text.new.items ≡ text.old.items ++ heads_of protocols.now options.now) }
 {
     let table = table_by(alloc, Protocol::Ghs)?;
-    let says = says_protocol(options.sheet, protocols);
+    let says = says_protocol(options.sheet, options.by, protocols);
     text.extend_from_slice(protocol_head(says, options.form))?;
-    put_head_by(text, &table, by_of(protocols, options), options)
+    put_head_by(alloc, text, &table, says, first_of(protocols), options)
+}
+
+/// The first of the protocols.
+fn first_of(protocols: &[Protocol]) -> Protocol
+    ensures { result ≡ first_of protocols.now }
+{
+    match protocols {
+        [first, ..] => *first,
+        [] => Protocol::Ghs,
+    }
 }
 
 /// The same without a protocol's, of runs or of their parts.
 fn put_head_by(
+    alloc: Global,
     text: &mut Vec<u8>,
     table: &Table,
-    by: Option<By>,
+    says: bool,
+    first: Protocol,
     options: &SweepOptions,
 ) -> Result<(), AllocError>
-    ensures { IfOk result (λ _. text.new.items ≡ text.old.items ++ head_by table.now by options.now.form options.now.sheet) }
+    ensures { IfOk result (λ _. text.new.items ≡ text.old.items ++ head_by says first table.now options.now.by options.now.form options.now.sheet) }
 {
-    match (by, options.form) {
+    match (options.by, options.form) {
         (None, _) => put_head_of(text, table, options),
-        (Some(by), Form::Text) => text.extend_from_slice(head_line(by)),
+        (Some(by), Form::Text) => put_part_head(alloc, text, says, first, by),
         (Some(_), Form::Json) => Ok(()),
     }
+}
+
+/// The same of parts.
+fn put_part_head(
+    alloc: Global,
+    text: &mut Vec<u8>,
+    says: bool,
+    first: Protocol,
+    by: By,
+) -> Result<(), AllocError>
+    ensures { IfOk result (λ _. text.new.items ≡ text.old.items ++ part_head by (part_columns says first by)) }
+{
+    let columns = part_columns(alloc, says, first, by)?;
+    part_line::put_head(text, by, &columns)
 }
 
 /// Puts the lines of the sweeps of a graph by protocols behind a text, each behind the same front. Refusal: out of memory.
@@ -134,11 +161,10 @@ pub(crate) fn put_lines_by<R: Threads + Sync + Eprint>(
     requires { AreSweepLimits options.now }
     ensures { IfOk result (λ _. (lines : List ℕ) × AreLinesBy protocols.now options.now front.now graph.now lines × (text.new.items ≡ text.old.items ++ lines)) }
 {
-    let says = says_protocol(options.sheet, protocols);
-    let by = by_of(protocols, options);
+    let says = says_protocol(options.sheet, options.by, protocols);
     for protocol in protocols {
         let own = front_by(alloc, says, options.form, front, *protocol)?;
-        put_lines_of(rt, alloc, text, *protocol, by, options, &own, graph)?;
+        put_lines_of(rt, alloc, text, says, *protocol, options, &own, graph)?;
     }
     Ok(())
 }
@@ -149,18 +175,26 @@ fn put_lines_of<R: Threads + Sync + Eprint>(
     rt: &R,
     alloc: Global,
     text: &mut Vec<u8>,
+    says: bool,
     protocol: Protocol,
-    by: Option<By>,
     options: &SweepOptions,
     front: &[u8],
     graph: &Graph,
 ) -> Result<(), AllocError>
     requires { AreSweepLimits options.now }
-    ensures { IfOk result (λ _. (lines : List ℕ) × AreLines protocol by options.now front.now graph.now lines × (text.new.items ≡ text.old.items ++ lines)) }
+    ensures { IfOk result (λ _. (lines : List ℕ) × AreLines says protocol options.now.by options.now front.now graph.now lines × (text.new.items ≡ text.old.items ++ lines)) }
 {
-    match by {
+    match options.by {
         None => put_swept(rt, alloc, text, protocol, options, front, graph),
-        Some(by) => put_parted(rt, alloc, text, options, by, front, graph),
+        Some(by) => {
+            let several = says;
+            let parting = Parting {
+                protocol,
+                by,
+                several,
+            };
+            put_parted(rt, alloc, text, options, parting, front, graph)
+        }
     }
 }
 

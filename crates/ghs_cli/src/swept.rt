@@ -1,5 +1,5 @@
 //! How each protocol is swept. A further protocol has a line in each function by protocols here.
-ghost use Rattle.ghs_cli.specs.Swept.{AreRunsBy, IsBoundBy, by_of, kind_columns, layout_by, setup_of};
+ghost use Rattle.ghs_cli.specs.Swept.{AreRunsBy, IsBoundBy, kind_columns, layout_by, part_columns, part_names, setup_of};
 ghost use Rattle.peer_sweep.specs.Sweep.{HasTurns};
 ghost use Rattle.std.specs.Prelude.{◌≡◌, ◌+◌, ◌≤◌, ◌^◌, IfOk, OnErr, length};
 
@@ -11,6 +11,7 @@ use ghs_graph::bounds::bound;
 use ghs_graph::graph::Graph;
 use ghs_sweep::seeded::Ghs;
 use peer_machine::protocol::Protocol as Rules;
+use peer_parts::columns::{Column, columns_by, names_of};
 use peer_sweep::figures::Figures;
 use peer_sweep::rules::ByRules;
 use peer_sweep::runs::run_seeds;
@@ -107,12 +108,34 @@ pub(crate) fn setup_of(options: &SweepOptions) -> Setup
     }
 }
 
-/// By which parts messages are counted: sweeps by GHS alone have any.
-pub(crate) fn by_of(protocols: &[Protocol], options: &SweepOptions) -> Option<By>
-    ensures { result ≡ by_of protocols.now options.now }
+/// The columns of the counts of a protocol's parts: of its own kinds of messages, or of those of all where there are several
+/// protocols. Refusal: out of memory.
+pub(crate) fn part_columns(
+    alloc: Global,
+    several: bool,
+    protocol: Protocol,
+    by: By,
+) -> Result<Vec<Column>, AllocError>
+    ensures { IfOk result (λ columns. columns.items ≡ part_columns several protocol by) }
 {
-    match protocols {
-        [Protocol::Ghs] => options.by,
-        _ => None,
+    let names = part_names(alloc, several, protocol)?;
+    match protocol {
+        Protocol::Ghs => columns_by::<Ghs>(alloc, by, &names),
+        Protocol::Boruvka => columns_by::<ByRules<Boruvka>>(alloc, by, &names),
+        Protocol::Echo => columns_by::<ByRules<Echo>>(alloc, by, &names),
+    }
+}
+
+/// The names of these kinds.
+fn part_names(alloc: Global, several: bool, protocol: Protocol) -> Result<Vec<Word>, AllocError>
+    ensures { IfOk result (λ names. names.items ≡ part_names several protocol) }
+{
+    if several {
+        return Ok(Vec::from_array(alloc, kind_columns())?);
+    }
+    match protocol {
+        Protocol::Ghs => names_of::<Ghs>(alloc),
+        Protocol::Boruvka => names_of::<ByRules<Boruvka>>(alloc),
+        Protocol::Echo => names_of::<ByRules<Echo>>(alloc),
     }
 }

@@ -149,9 +149,13 @@ threads_of_a_sweep-taken : kinds_of (in_step (codes "--workers" ∷ codes "8" �
 unfolding program clap_on_literals
 threads_of_a_sweep-taken = refl
 
-parts_in_step-refused : kinds_of (in_step (codes "--by" ∷ codes "node" ∷ [])) ≡ kind.InvalidValue ∷ []
+nodes_in_step-taken : kinds_of (in_step (codes "--by" ∷ codes "node" ∷ [])) ≡ []
 unfolding program clap_on_literals
-parts_in_step-refused = refl
+nodes_in_step-taken = refl
+
+levels_in_step-refused : kinds_of (in_step (codes "--by" ∷ codes "level" ∷ [])) ≡ kind.InvalidValue ∷ []
+unfolding program clap_on_literals
+levels_in_step-refused = refl
 
 patience_in_step-taken : kinds_of (in_step (codes "--schedule" ∷ codes "patient" ∷ [])) ≡ []
 unfolding program clap_on_literals

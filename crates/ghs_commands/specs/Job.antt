@@ -394,9 +394,9 @@ runs_so command =
     && not (is_said (codes "true") (value_in (codes "tally") command))
     && is_none (value_in (codes "book") command)
 
--- what is swept does: the figures of runs, by no parts
+-- what is swept does: the figures of runs, also by node and by rule, but not by level
 abbrev pub sweeps_so : Used → Bool
-sweeps_so command = is_none (value_in (codes "by") command)
+sweeps_so command = not (is_said (codes "level") (value_in (codes "by") command))
 
 -- all that is asked for does
 abbrev pub fits_every : Used → Bool

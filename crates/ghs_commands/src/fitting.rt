@@ -60,12 +60,13 @@ fn is_exploration<'a>(matches: &ArgMatches<'a>) -> bool
     value_of(matches, "limit").is_some()
 }
 
-/// The first that says what is swept, or what is printed of a sweep.
+/// The first that says what is swept, or what is printed of a sweep: nodes and rules every protocol has, levels GHS alone.
 fn stranger_of_sweep<'a>(matches: &ArgMatches<'a>) -> Option<&'static str>
     ensures { is_none result ≡ sweeps_so (subcommand_rows_of matches.now) }
 {
-    match value_of(matches, "by") {
-        Some(_) => Some("--by <by>"),
-        None => None,
+    if is_said(value_of(matches, "by"), "level") {
+        Some("--by level")
+    } else {
+        None
     }
 }

@@ -546,7 +546,7 @@ fn by<'a>(alloc: Global) -> Arg<'a>
     ensures rule { rule_of result ≡ by_rule }
 {
     valued(alloc, "by", "by").help(
-        "Prints a line for each part of a run: the messages of each node or level, or how often each rule applied",
+        "Prints a line for each part of a run: the messages of each node or level, or how often each rule applied; only ghs has levels",
     )
 }
 

@@ -1,6 +1,7 @@
 -- What is counted while the events of a run are gone over.
 use Rattle.std.proofs.Common.{◌≡◌, ℕ, ◌+◌, ◌<◌, Option, Some, List, [], ◌∷◌, ◌++◌, length, map, max, refl, sym, ◌∙◌, ap, append_assoc, append-nil, arith}
 use Rattle.std.specs.List.{sum_by}
+use Rattle.std.proofs.lemmas.List.Sums.{sum_by-cons}
 use Rattle.std.specs.Prelude.{unwrap_or}
 use Rattle.ghs_graph.specs.Graph.{Shape}
 use Rattle.ghs_node.specs.declared.delta.Delta.{Delta}
@@ -27,7 +28,6 @@ use Rattle.ghs_steps.specs.Told.{sent_by}
 use Rattle.ghs_parts.specs.Deeds.{Deed, deed, deeds, deeds_behind, sent_of}
 use Rattle.ghs_parts.specs.Parts.{greatest_level}
 use Rattle.ghs_parts.specs.Rule.{rule_place}
-use Rattle.ghs_parts.proofs.Summing.{sum_first}
 
 deeds_append : (g : Shape) (done es fs : List Event) → deeds_behind g done (es ++ fs) ≡ deeds_behind g done es ++ deeds_behind g (done ++ es) fs
 deeds_append g done [] fs = ap (λ (d : List Event). deeds_behind g d fs) (sym (append-nil done))
@@ -45,7 +45,7 @@ pub deeds_length : (g : Shape) (done es : List Event) → sum_by (λ (d : Deed).
 deeds_length g done [] = refl
 deeds_length g done (e ∷ es) =
     let rest = deeds_length g (done ++ e ∷ []) es in
-    let first = sum_first (λ (d : Deed). 1) (deed g done e) (deeds_behind g (done ++ e ∷ []) es) in
+    let first = sum_by-cons (λ (d : Deed). 1) (deed g done e) (deeds_behind g (done ++ e ∷ []) es) in
     omega (arith, rest, first)
 
 -- the messages of what is told are those of the reaction
@@ -84,7 +84,7 @@ sent_behind g k done (e ∷ es) w x h r =
     let after : IsAfter n (done ++ e ∷ []) y = run_joins n done (e ∷ []) (opening n) w h ∙ one y here in
     let ih = sent_behind g k (done ++ e ∷ []) es y x after rest in
     let step = happens_sent g done e w y k (net_after_is g done w h) (happening n w y e here) in
-    let first = sum_first (sent_of k) (deed g done e) (deeds_behind g (done ++ e ∷ []) es) in
+    let first = sum_by-cons (sent_of k) (deed g done e) (deeds_behind g (done ++ e ∷ []) es) in
     omega (arith, ih, step, first))
   where
     one : (y : Net) → happens (network_of g) w e ≡ Some y → run (network_of g) (e ∷ []) w ≡ Some y

@@ -3,7 +3,5 @@ pub mod Counting
 pub mod AddingUp
 pub mod Reaching
 pub mod KindCounts
-pub mod Summing
 pub mod Tallying
-pub mod Lining
 mod Examples

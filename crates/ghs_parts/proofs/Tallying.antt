@@ -1,6 +1,7 @@
 -- The parts that are kept, with one event more.
-use Rattle.std.proofs.Common.{◌≡◌, ◌≢◌, ℕ, ◌+◌, ◌-◌, ◌<◌, ◌≤◌, ◌^◌, ◌==◌, Some, List, [], ◌∷◌, ◌++◌, cond, length, get_or, max, slice_index, take, refl, sym, ◌∙◌, ap, ap₂, subst, ⊎_elim, arith, eq-eqb, ne_eqb}
+use Rattle.std.proofs.Common.{◌≡◌, ◌≢◌, ℕ, ◌+◌, ◌-◌, ◌<◌, ◌≤◌, ◌^◌, Some, List, [], ◌∷◌, ◌++◌, length, get_or, max, slice_index, take, refl, sym, ◌∙◌, ap, ap₂, subst, ⊎_elim, arith}
 use Rattle.std.specs.List.{sum_by}
+use Rattle.std.proofs.lemmas.List.Sums.{sum_by_push}
 use Rattle.std.proofs.lemmas.Bool.{cases_eq}
 use Rattle.std.proofs.lemmas.List.{ext_get_or, get_or-take, length-take-le}
 use Rattle.std.proofs.lemmas.List.FromFn.{get_or-map-range_with_len, length-map-range_with_len}
@@ -27,32 +28,17 @@ use Rattle.ghs_parts.specs.Deeds.{Deed, deed, deeds, sent_of}
 use Rattle.ghs_parts.specs.Parts.{count_of, first_of, greatest_level, part_of, parts_of, place_of_part, sum_in, sums_of}
 use Rattle.ghs_parts.specs.Tally.{AreParts, HasAdded, IsPart, IsTally, no_part, part_at, parts_kept}
 use Rattle.ghs_parts.proofs.Counting.{all_sent, deeds_length, deeds_more, greatest_more, rule_few, sent_here}
-use Rattle.ghs_parts.proofs.Summing.{part_le, sum_last}
-
--- a part's sum with the next deed: its own, or another's
-sum_own : (by : By) (p : ℕ) (number : Deed → ℕ) (ds : List Deed) (x : Deed) → part_of by x ≡ p →
-    sum_in by p number (ds ++ x ∷ []) ≡ sum_in by p number ds + number x
-sum_own by p number ds x e =
-    let last = sum_last (λ (d : Deed). cond (part_of by d == p) (number d) 0) x ds in
-    let own : cond (part_of by x == p) (number x) 0 ≡ number x = rw (eq-eqb (part_of by x) p e) refl in
-    omega (arith, last, own)
-
-sum_other : (by : By) (p : ℕ) (number : Deed → ℕ) (ds : List Deed) (x : Deed) → part_of by x ≢ p →
-    sum_in by p number (ds ++ x ∷ []) ≡ sum_in by p number ds
-sum_other by p number ds x ne =
-    let last = sum_last (λ (d : Deed). cond (part_of by d == p) (number d) 0) x ds in
-    let other : cond (part_of by x == p) (number x) 0 ≡ 0 = rw (ne_eqb (part_of by x) p ne) refl in
-    omega (arith, last, other)
+use Rattle.peer_parts.proofs.lemmas.Summing.{part_le, sum_other, sum_own}
 
 -- the part of the next deed
 own_more : (by : By) (ds : List Deed) (x : Deed) (ss : Outgoing) (p : ℕ) (old new : Part) → part_of by x ≡ p →
     ((k : ℕ) → sent_of k x ≡ of_kind k (messages_of ss)) → new.events ≡ old.events + 1 → CountsSends ss old.kinds new.kinds →
     length new.kinds ≡ length old.kinds → IsPart by ds p old → IsPart by (ds ++ x ∷ []) p new
 own_more by ds x ss p old new is sends events kinds width part = record {
-  events = let before = part.events in let more = sum_own by p (λ (d : Deed). 1) ds x is in omega (arith, before, more, events);
+  events = let before = part.events in let more = sum_own (part_of by) p (λ (d : Deed). 1) ds x is in omega (arith, before, more, events);
   kinds = λ k lt.
       let before = part.kinds k lt in
-      let more = sum_own by p (sent_of k) ds x is in
+      let more = sum_own (part_of by) p (sent_of k) ds x is in
       let one = sends k in
       let now = kinds k lt in
       omega (arith, before, more, one, now);
@@ -62,8 +48,8 @@ own_more by ds x ss p old new is sends events kinds width part = record {
 -- another part
 other_more : (by : By) (ds : List Deed) (x : Deed) (p : ℕ) (part : Part) → part_of by x ≢ p → IsPart by ds p part → IsPart by (ds ++ x ∷ []) p part
 other_more by ds x p part ne is = record {
-  events = is.events ∙ sym (sum_other by p (λ (d : Deed). 1) ds x ne);
-  kinds = λ k lt. is.kinds k lt ∙ sym (sum_other by p (sent_of k) ds x ne);
+  events = is.events ∙ sym (sum_other (part_of by) p (λ (d : Deed). 1) ds x ne);
+  kinds = λ k lt. is.kinds k lt ∙ sym (sum_other (part_of by) p (sent_of k) ds x ne);
   width = is.width;
 }
 
@@ -199,7 +185,7 @@ pub events_fit : (by : By) (g : Shape) (es : List Event) (parts : List Part) (le
     length es < 2 ^ 40 → (part_at parts i).events < 2 ^ 64 - 1
 events_fit by g es parts level i tally lt few =
     let is = (tally.are i lt).events in
-    let most = part_le by (first_of by + i) (λ (d : Deed). 1) (deeds g es) in
+    let most = part_le (part_of by) (first_of by + i) (λ (d : Deed). 1) (deeds g es) in
     let all = deeds_length g [] es in
     omega (arith, is, most, all, few)
 
@@ -211,9 +197,9 @@ pub kinds_fit : (by : By) (g : Shape) (es : List Event) (e : Event) (d : Delta) 
     slice_index (part_at parts i).kinds k + of_kind k (messages_of d.sends) < 2 ^ 64
 kinds_fit by g es e d parts level i k tally lt small answer run fits =
     let is = (tally.are i lt).kinds k small in
-    let most = part_le by (first_of by + i) (sent_of k) (deeds g es) in
+    let most = part_le (part_of by) (first_of by + i) (sent_of k) (deeds g es) in
     let one = sent_here g es e d k answer in
-    let last = sum_last (sent_of k) (deed g es e) (deeds g es) in
+    let last = sum_by_push (sent_of k) (deeds g es) (deed g es e) in
     let all : sum_by (sent_of k) (deeds g es ++ deed g es e ∷ []) ≡ (net_after g (es ++ e ∷ [])).sent k =
     ap (sum_by (sent_of k)) (sym (deeds_more g es e)) ∙ all_sent g k (es ++ e ∷ []) run in
     omega (arith, is, most, one, last, all, fits)

@@ -1,8 +1,6 @@
 -- To be believed: contracts cite what stands here, and what it is made of.
 pub mod Deeds
-pub mod JsonLine
 pub mod Laws
-pub mod Line
 pub mod Lines
 pub mod Parts
 pub mod Rule

@@ -1,12 +1,13 @@
 -- The figures of a run by part.
-use Rattle.std.specs.Prelude.{ℕ, ◌+◌, ◌==◌, max, List, [], ◌∷◌, length, map, if◌then◌else◌}
-use Rattle.std.specs.List.{range_with_len, sum_by}
+use Rattle.std.specs.Prelude.{ℕ, ◌+◌, max, List, [], ◌∷◌, length, map}
+use Rattle.std.specs.List.{range_with_len}
 use Rattle.ghs_graph.specs.Graph.{Shape}
 use Rattle.ghs_node.specs.declared.row_name.RowName.{RowName}
 use Rattle.peer_network.specs.declared.event.Event.{Event}
 use Rattle.peer_network.specs.Events.{event_node}
 use Rattle.ghs_choices.specs.declared.by.By.{By}
 use Rattle.ghs_choices.specs.declared.by.By.TheVariants.{Node, Level, Rule}
+use Rattle.peer_parts.specs.Parts as parts
 use Rattle.ghs_parts.specs.declared.part.Part.{Part}
 use Rattle.ghs_parts.specs.Deeds.{Deed, deeds, sent_of}
 use Rattle.ghs_parts.specs.Rule.{rule_place, rules}
@@ -23,7 +24,7 @@ part_of by d = place_of_part by (event_node d.step.moment.event) d.level d.step.
 
 -- a number of each deed, added up over those of part p
 abbrev pub sum_in : By → ℕ → (Deed → ℕ) → List Deed → ℕ
-sum_in by p number ds = sum_by (λ (d : Deed). if part_of by d == p then number d else 0) ds
+sum_in by p number ds = parts.sum_in (part_of by) p number ds
 
 -- how many messages of the kind at place k a run's part p has sent, and how many events it has
 abbrev pub sent_by : By → Shape → List Event → ℕ → ℕ → ℕ

@@ -1,6 +1,7 @@
-//! Figures of a run by part: by the node that sends, by the level at which it sends, by the rule that applies.
+//! Figures of a run of GHS by part: by the node that sends, by the level at which it sends, by the rule that applies.
 //!
-//! Proved: `parts_of` is the sums over the steps of the run (`specs/Parts.antt`), and `put_run` appends their lines.
+//! Proved: `parts_of` is the sums over the steps of the run (`specs/Parts.antt`), and `put_run` appends their lines, which are
+//! those of any protocol (`peer_parts`). Each row of the table has a line, in its order, whether it applied or not.
 //! Nothing is left out: what all nodes have sent is what was sent (`law_nodes`), so is what was sent at all levels
 //! (`law_levels`), and all rows together applied as often as events happened (`law_rules`).
 //!
@@ -8,9 +9,7 @@
 //! them.
 #![tactic(auto)]
 
-mod json_line;
 pub mod laws;
-pub mod line;
 pub mod lines;
 pub mod part;
 pub mod parts;

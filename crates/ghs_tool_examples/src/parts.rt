@@ -2,13 +2,15 @@
 use crate::fixtures::{events_of_text, replayed};
 use ghs_choices::by::By;
 use ghs_choices::form::Form;
-use ghs_parts::line::head_line;
 use ghs_parts::lines::put_run;
 use ghs_refusing::scenes::let_go;
+use ghs_sweep::seeded::Ghs;
 use ghs_test_graphs::graphs::TRIANGLE;
 use ghs_test_graphs::traces::TRIANGLE_TRACE;
 use ghs_world::world::World;
 use peer_network::wake_set::WakeSet;
+use peer_parts::columns::{Column, columns_by, names_of};
+use peer_parts::line::put_head;
 use std::alloc::Global;
 use std::process::Abort;
 
@@ -69,6 +71,19 @@ fn triangle_run(rt: &impl Abort, alloc: Global) -> World {
     replayed(rt, alloc, TRIANGLE, WakeSet::All, &events)
 }
 
+/// The columns by a kind of part.
+fn columns(rt: &impl Abort, alloc: Global, by: By) -> Vec<Column> {
+    let names = names_of::<Ghs>(alloc).expect(rt, "memory");
+    columns_by::<Ghs>(alloc, by, &names).expect(rt, "memory")
+}
+
+/// Their names, as a line.
+fn head(rt: &impl Abort, alloc: Global, by: By) -> Vec<u8> {
+    let mut text = Vec::new(alloc);
+    put_head(&mut text, by, &columns(rt, alloc, by)).expect(rt, "memory");
+    text
+}
+
 /// Puts the lines of a run, each behind a front, behind a text.
 fn put_lines(
     rt: &impl Abort,
@@ -79,6 +94,7 @@ fn put_lines(
     by: By,
     world: &World,
 ) {
+    let columns = columns(rt, alloc, by);
     let _ = world.turns();
     let put = put_run(
         alloc,
@@ -87,6 +103,7 @@ fn put_lines(
         front,
         by,
         7,
+        &columns,
         world.graph(),
         world.trace(),
     );
@@ -115,7 +132,7 @@ fn assert_text(rt: &impl Abort, found: &[u8], text: &str) {
 
 /// The lines by a kind of part, behind their head.
 fn assert_lines(rt: &impl Abort, alloc: Global, by: By, lines: &str) {
-    let text = text_of(rt, alloc, head_line(by), Form::Text, b"", by);
+    let text = text_of(rt, alloc, &head(rt, alloc, by), Form::Text, b"", by);
     assert_text(rt, &text, lines);
 }
 

@@ -40,9 +40,9 @@ impl NodePart {
 /// How many messages of each kind each node of a run has sent, by its events so far.
 ///
 /// ```text
-/// let mut parts = NodeParts::none::<Boruvka>(alloc, world.net().graph())?;
+/// let mut parts = NodeParts::none::<Boruvka>(alloc, (), world.net().graph())?;
 /// run_followed(alloc, &mut world, &mut Schedule::seeded(7), 1 << 40, &mut parts)?;
-/// // of the first of two nodes with a link of weight 5, once a run by Borůvka in step has ended: parts.all()[0].counts()
+/// // once a run of two nodes has ended, parts.all()[0].counts() are [1, 1, 0, 0, 0]: a Connect and an Initiate
 /// ```
 #[derive(Debug, Drop)]
 pub struct NodeParts {
@@ -59,14 +59,19 @@ impl Model for NodeParts {
 
 impl NodeParts {
     /// Those of a run that has no event yet. O(N) for each kind. Refusal: out of memory.
-    pub fn none<P: Spoken>(alloc: Global, graph: &Graph) -> Result<NodeParts, AllocError>
+    pub fn none<P: Spoken>(
+        alloc: Global,
+        setting: P::Setting,
+        graph: &Graph,
+    ) -> Result<NodeParts, AllocError>
+        requires { P.goes_by setting }
         ensures { IfOk result (λ p. AreNodeParts P.rules P.words graph.now [] p) }
     {
         let count = graph.nodes();
         let mut parts = Vec::with_capacity(alloc, count as usize)?;
         for _ in 0..count {
             parts.push(NodePart {
-                counts: vec![in alloc; 0u64; P::kinds()]?,
+                counts: vec![in alloc; 0u64; P::kinds(setting)]?,
             })?;
         }
         Ok(NodeParts { parts })
@@ -96,6 +101,7 @@ impl<P: Spoken> Follower<P> for NodeParts {
     fn follow(&mut self, net: &Net<P>, event: Event, _seen: (), sends: &[(u32, P::Message)]) {
         // Read for their clauses: the events are a run, and what it sends is within the bound.
         let _ = net.trace();
-        count::<P>(&mut self.parts[node_of(event) as usize - 1].counts, sends);
+        let counts = &mut self.parts[node_of(event) as usize - 1].counts;
+        count::<P>(net.setting(), counts, sends);
     }
 }

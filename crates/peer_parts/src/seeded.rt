@@ -57,9 +57,17 @@ fn put_by_node<P: Ends + Spoken>(
 ) -> Result<(), AllocError>
     ensures { IfOk result (λ _. (lines : List ℕ) × IsPrinted P.rules P.words P.has_ended (λ es. node_lines form front.now seed columns.now (node_parts P.rules P.words graph.now es)) graph.now setup seed lines × (text.new.items ≡ text.old.items ++ lines)) }
 {
-    let mut parts = NodeParts::none::<P>(alloc, graph)?;
+    let mut parts = NodeParts::none::<P>(alloc, P::setting(), graph)?;
     let copy = graph.copy(alloc)?;
-    run_followed_by_seed::<P, NodeParts>(alloc, copy, setup.wake, seed, setup.turns, &mut parts)?;
+    run_followed_by_seed::<P, NodeParts>(
+        alloc,
+        copy,
+        setup.wake,
+        setup.schedule_kind,
+        seed,
+        setup.turns,
+        &mut parts,
+    )?;
     put_nodes(text, form, front, seed, columns, parts.all())
 }
 
@@ -77,6 +85,14 @@ fn put_by_row<P: Ends + Spoken>(
 {
     let mut rows = RowParts::none(alloc);
     let copy = graph.copy(alloc)?;
-    run_followed_by_seed::<P, RowParts>(alloc, copy, setup.wake, seed, setup.turns, &mut rows)?;
+    run_followed_by_seed::<P, RowParts>(
+        alloc,
+        copy,
+        setup.wake,
+        setup.schedule_kind,
+        seed,
+        setup.turns,
+        &mut rows,
+    )?;
     put_rows(text, form, front, seed, columns, rows.all()?)
 }

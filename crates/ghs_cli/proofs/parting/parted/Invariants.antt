@@ -4,7 +4,7 @@ use Rattle.ghs_cli.proofs.parting.parted.Given as goal
 
 abbrev pub invariant-loop-left : goal.invariant-loop-left
 invariant-loop-left g l = record {
-  lines : ArePartedRuns l.options l.by l.front l.graph l.options.seeds.first (l.count - l.left) l.lines.items;
+  lines : ArePartedRuns l.options l.parting l.front l.graph l.options.seeds.first (l.count - l.left) l.lines.items;
   left : l.left ≤ l.count;
 }
 
