@@ -45,6 +45,7 @@ texts_more es i x y l e h = ⊎_elim
     h f in_it.2 ∙ ap (λ xs. fold noted xs (texts_in f)) e
     ∙ sym (fold-append noted [] (flat_map texts_in (take i es)) (texts_in f))
     ∙ ap (λ ts. fold noted [] (flat_map texts_in (take i es) ++ ts)) (sym (append-nil (texts_in f)))
-    ∙ ap (fold noted []) (sym (flat_map-append texts_in (take i es) (f ∷ []))) ∙ ap texts_of (sym grown) ∙ ap (λ n. texts_of (take n es)) next)
+    ∙ ap (fold noted []) (sym (flat_map-append texts_in (take i es) (f ∷ []))) ∙ ap texts_of (sym grown)
+    ∙ ap (λ n. texts_of (take n es)) next)
     (λ past. absurd (let p = past.0 in omega arith))
     (slice_get_cases es i).1

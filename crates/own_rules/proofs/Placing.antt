@@ -81,14 +81,16 @@ module _ {X : Type 0} (test : X → Bool) where
       ∙ ap (or_here (position_from test (i + 1) ys) (test x)) long
       ∙ sym (ap (λ o. or_here o (test x) (i + length (y ∷ ys))) (cond-false (test y) (Some i) (position_from test (i + 1) ys) e))
 
-  from_push : (i : ℕ) (xs : List X) (x : X) → position_from test i (xs ++ x ∷ []) ≡ or_here (position_from test i xs) (test x) (i + length xs)
+  from_push : (i : ℕ) (xs : List X) (x : X) →
+      position_from test i (xs ++ x ∷ []) ≡ or_here (position_from test i xs) (test x) (i + length xs)
   from_push i [] x = ap (λ n. cond (test x) (Some n) None) (sym (add-zero i))
   from_push i (y ∷ ys) x = push_by i y ys x (test y) refl (from_push (i + 1) ys x)
 
   position_push : (xs : List X) (x : X) → position test (xs ++ x ∷ []) ≡ or_here (position test xs) (test x) (length xs)
   position_push xs x =
       let long : 0 + length xs ≡ length xs = omega arith in
-      position_from-zero test (xs ++ x ∷ []) ∙ from_push 0 xs x ∙ ap (or_here (position_from test 0 xs) (test x)) long ∙ sym (ap (λ o. or_here o (test x) (length xs)) (position_from-zero test xs))
+      position_from-zero test (xs ++ x ∷ []) ∙ from_push 0 xs x ∙ ap (or_here (position_from test 0 xs) (test x)) long
+      ∙ sym (ap (λ o. or_here o (test x) (length xs)) (position_from-zero test xs))
 
   at_by : (n m i : ℕ) (b : Bool) → cond b (Some n) None ≡ Some i → n ≡ i
   at_by n m i true h = same_Some _ _ h
@@ -114,7 +116,8 @@ module _ {X : Type 0} (test : X → Bool) where
 -- the answer of a book, by the place
 
 module _ (texts : List Text) (book : List Entry) (l : Lookup) where
-  pub answer_is : (i : ℕ) (e : Entry) → position (asks texts l) book ≡ Some i → slice_get book i ≡ Some e → answer_at texts book l ≡ Some e.answer
+  pub answer_is : (i : ℕ) (e : Entry) → position (asks texts l) book ≡ Some i →
+      slice_get book i ≡ Some e → answer_at texts book l ≡ Some e.answer
   answer_is i e p at = ap (option_map (λ (x : Entry). x.answer)) (find_is (asks texts l) book i p ∙ at)
 
   pub answer_past : (i : ℕ) → position (asks texts l) book ≡ Some i → slice_get book i ≡ None → answer_at texts book l ≡ None
@@ -142,7 +145,8 @@ module _ (texts : List Text) where
   asked_so l k e h = ap (is_lookup l) h
 
   -- a lookup that has its place already keeps it, and another's place stays
-  first_or : (old : List (Lookup × ℕ)) (k l : Lookup) (n : ℕ) (o : Option ℕ) (b c : Bool) → place_in old k ≡ o → same_lookup l k ≡ b →
+  first_or : (old : List (Lookup × ℕ)) (k l : Lookup) (n : ℕ) (o : Option ℕ) (b c : Bool) → place_in old k ≡ o →
+      same_lookup l k ≡ b →
       same_lookup k l ≡ c → first_at old k n l ≡ or_here (place_in old l) b n
   first_or old k l n (Some i) true c p e f =
       let same = same_is l k e in
@@ -170,7 +174,8 @@ module _ (texts : List Text) where
       let next : i + 1 ≡ suc i = omega arith in
       ap (λ n. take n es) next ∙ take-suc es i e l ∙ ap (λ (g : Entry). take i es ++ g ∷ []) (get_or_from_slice_get es i e e at)
 
-  pub places_more : (es : List Entry) (i : ℕ) (old new : List (Lookup × ℕ)) (o : Option Lookup) → i < length es → ArePlaces texts (take i es) old →
+  pub places_more : (es : List Entry) (i : ℕ) (old new : List (Lookup × ℕ)) (o : Option Lookup) → i < length es →
+      ArePlaces texts (take i es) old →
       ((e : Entry) → slice_get es i ≡ Some e → o ≡ lookup_of texts e) →
       ((k : Lookup) → o ≡ Some k → (l : Lookup) → place_in new l ≡ first_at old k i l) → (o ≡ None → new ≡ old) →
       ArePlaces texts (take (i + 1) es) new

@@ -62,7 +62,8 @@ abbrev pub message_bits : Widths → ℕ → Text → Text → ℕ
 message_bits w count kinds message =
     min 4294967295
     (width_of (kinds_many kinds - 1)
-    + arguments_bits w count (types_at (find (λ k. bytes_eq k.0 (kind_in message (cut_at 40 message))) (kinds_in kinds))) (values_in (cut_at 40 message)))
+    + arguments_bits w count (types_at (find (λ k. bytes_eq k.0 (kind_in message (cut_at 40 message))) (kinds_in kinds)))
+    (values_in (cut_at 40 message)))
 
 abbrev pub bits_of : Text → Shape → Text → ℕ
 bits_of kinds g message = message_bits (widths_of g) (width_of (length g.keys)) kinds message

@@ -103,7 +103,8 @@ module _ (book : List Entry) (most : ℕ) (ports left : ℕ) where
   sends_on kinds (s ∷ more) h =
       send_by kinds s more (nat_lt s.0 ports) (names_kind kinds s.1) refl refl h (sends_on kinds more)
 
-  unfaulty : (kinds after : Text) (sends : List Sending) (b : Bool) → says_asleep after ≡ b → reaction_fault kinds ports after sends ≡ None →
+  unfaulty : (kinds after : Text) (sends : List Sending) (b : Bool) → says_asleep after ≡ b →
+      reaction_fault kinds ports after sends ≡ None →
       sends_fault kinds ports sends ≡ None
   unfaulty kinds after sends true e h = let no : Some StillAsleep ≡ None = sym (cond-true (says_asleep after) _ _ e) ∙ h in cc
   unfaulty kinds after sends false e h = sym (cond-false (says_asleep after) _ _ e) ∙ h
@@ -161,7 +162,8 @@ module _ (book : List Entry) (most : ℕ) where
   pub told_pays : PaysFrom (rules_of book most) budget most
   told_pays = record {
     opens = λ v ports. opened_left book most (told_in book (open_text v ports));
-    pays = λ n k o h. subst (λ (x : Outcome Node Message). length x.sends + cond (deferred book n.number n.ports k n.state) 1 0 + budget x.state ≤ budget n)
+    pays = λ n k o h. subst
+        (λ (x : Outcome Node Message). length x.sends + cond (deferred book n.number n.ports k n.state) 1 0 + budget x.state ≤ budget n)
         (same_Some _ _ h) (next_pays n.number n.ports k n.state);
   }
 

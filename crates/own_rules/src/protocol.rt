@@ -51,9 +51,10 @@ pub struct Playing<'a> {
     pub most: u32,
 }
 
-/// A node does what a book answers.
+/// A node does what a book answers. No value of this type is made.
 pub struct Told<'a, J: Chosen> {
-    of: PhantomData<(&'a Rulebook, J)>,
+    rules: &'a Rulebook,
+    of: PhantomData<J>,
 }
 
 impl<'a, J: Chosen> Protocol for Told<'a, J> {

@@ -11,6 +11,7 @@ returns-then-is_some c =
 pub returns : goal.returns
 returns c = λ l.
     noted_in c.self.inside.map.entries c.insert.new.self.entries c.args.lookup c.args.place
-    (ap (λ es. is_some (place_in es c.args.lookup)) c.self.view_is ∙ ap is_some (sym c.place.ensures) ∙ sym c.is_some.ensures ∙ c.if-is_some.false)
+    (ap (λ es. is_some (place_in es c.args.lookup)) c.self.view_is ∙ ap is_some (sym c.place.ensures) ∙ sym c.is_some.ensures
+    ∙ c.if-is_some.false)
     c.in_ok-insert.ensures.updates.0 l
     ∙ ap (λ es. first_at es c.args.lookup c.args.place l) c.self.view_is
