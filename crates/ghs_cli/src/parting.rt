@@ -149,16 +149,15 @@ fn parted_alone(
     requires seeds { first + count ≤ 2 ^ 64 }
     ensures { IfOk result (λ lines. ArePartedRuns options.now parting front.now graph.now first count lines.items) }
 {
-    let (protocol, by) = (parting.protocol, parting.by);
-    let columns = part_columns(alloc, parting.several, protocol, by)?;
+    let columns = part_columns(alloc, parting.several, parting.protocol, parting.by)?;
     let mut lines = Vec::new(alloc);
     for done in 0..count {
         put_seed(
             alloc,
             &mut lines,
             options,
-            protocol,
-            by,
+            parting.protocol,
+            parting.by,
             &columns,
             front,
             graph,
