@@ -18,7 +18,8 @@ module _ {S M : Type 0} (r : Rules S M) (words : Words S M) (has_ended : Shape �
   -- lines printed of the run that a seed picks, which has ended or has used its turns
   pub record IsPrinted (text : List Event → List ℕ) (g : Shape) (setup : Setup) (seed : ℕ) (lines : List ℕ) : Type 0 where
     pub events : List Event
-    pub run : IsWholeRun r has_ended setup.schedule_kind seed setup.wake setup.turns g events ⊎ IsStopped r has_ended setup.schedule_kind seed setup.wake setup.turns g events
+    pub run : IsWholeRun r has_ended setup.schedule_kind seed setup.wake setup.turns g events
+        ⊎ IsStopped r has_ended setup.schedule_kind seed setup.wake setup.turns g events
     pub printed : lines ≡ text events
 
   -- the lines of its parts, each behind a front; by level there are none: no rules here say what a node's level is
