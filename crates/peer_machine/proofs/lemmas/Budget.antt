@@ -33,7 +33,8 @@ module _ {S M : Type 0} (r : Rules S M) (kinds : HasKinds r) (budget : S → ℕ
   Kept w = in_all r w.sent + w.deferred + left_in w.node ≤ g.count * most
 
   -- one node reacts, and pays so much
-  left_then : (v : ℕ) (n : S) (node : ℕ → S) → 1 ≤ v → v ≤ g.count → left_in (put node v n) + budget (node v) ≡ left_in node + budget n
+  left_then : (v : ℕ) (n : S) (node : ℕ → S) → 1 ≤ v → v ≤ g.count →
+      left_in (put node v n) + budget (node v) ≡ left_in node + budget n
   left_then zero n node lo hi = absurd (omega (arith, lo))
   left_then (suc j) n node lo hi =
       let one =
@@ -42,7 +43,8 @@ module _ {S M : Type 0} (r : Rules S M) (kinds : HasKinds r) (budget : S → ℕ
       let here = ap budget (put_same node (suc j) n) in
       omega (arith, one, here)
 
-  reacted_keeps : (v : ℕ) (o : Outcome S M) (w : Net S M) (cost : ℕ) → 1 ≤ v → v ≤ g.count → length o.sends + cost + budget o.state ≤ budget (w.node v) →
+  reacted_keeps : (v : ℕ) (o : Outcome S M) (w : Net S M) (cost : ℕ) → 1 ≤ v → v ≤ g.count →
+      length o.sends + cost + budget o.state ≤ budget (w.node v) →
       in_all r w.sent + w.deferred + left_in w.node ≤ g.count * most + cost → Kept (reacted r g v o w)
   reacted_keeps v o w cost lo hi paid i =
       let left = left_then v o.state w.node lo hi in
@@ -52,7 +54,8 @@ module _ {S M : Type 0} (r : Rules S M) (kinds : HasKinds r) (budget : S → ℕ
       omega (arith, left, now, sent, later, paid, i)
 
   event_keeps : (w w' : Net S M) (e : Event) → Kept w → Happens r g w e w' → Kept w'
-  event_keeps w _ _ i (Woke v o lo hi s e t) = reacted_keeps v o w 0 lo hi (let p = pays.pays (w.node v) Wake o e in omega (arith, p)) (omega (arith, i))
+  event_keeps w _ _ i (Woke v o lo hi s e t) =
+      reacted_keeps v o w 0 lo hi (let p = pays.pays (w.node v) Wake o e in omega (arith, p)) (omega (arith, i))
   event_keeps w _ _ i (Took v p m ms o at q e t) =
       let x = take_first r g v p m ms w in
       let later = take_defers r g v p m ms w in
