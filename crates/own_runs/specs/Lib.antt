@@ -1,0 +1,2 @@
+-- To be believed: contracts cite what stands here, and what it is made of.
+pub mod Run
