@@ -33,8 +33,7 @@ module _ {S M : Type 0} (r : Rules S M) (kinds : HasKinds r) (budget : S → ℕ
   Kept w = in_all r w.sent + w.deferred + left_in w.node ≤ g.count * most
 
   -- one node reacts, and pays so much
-  left_then : (v : ℕ) (n : S) (node : ℕ → S) → 1 ≤ v → v ≤ g.count →
-      left_in (put node v n) + budget (node v) ≡ left_in node + budget n
+  left_then : (v : ℕ) (n : S) (node : ℕ → S) → 1 ≤ v → v ≤ g.count → left_in (put node v n) + budget (node v) ≡ left_in node + budget n
   left_then zero n node lo hi = absurd (omega (arith, lo))
   left_then (suc j) n node lo hi =
       let one =
