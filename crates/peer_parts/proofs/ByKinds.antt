@@ -2,7 +2,7 @@
 use Rattle.std.proofs.Common.{◌≡◌, ◌≢◌, ℕ, ◌+◌, ◌<◌, ◌≤◌, ◌==◌, List, [], ◌∷◌, ◌++◌, length, get_or, set, take, drop, refl, sym, ◌∙◌, ap, cond, ⊎_elim, eq-eqb, ne_eqb, arith, get_or-set_same, get_or-set_other, length-set}
 use Rattle.std.proofs.lemmas.Bool.{cases_eq}
 use Rattle.std.proofs.lemmas.List.{take_more, take-append-drop, map-append}
-use Rattle.peer_machine.specs.Rules.{Rules, Outgoing, HasKinds, messages}
+use Rattle.peer_machine.specs.Rules.{Rules, Outgoing, messages}
 use Rattle.peer_machine.specs.Ledger.{of_kind}
 use Rattle.peer_machine.proofs.lemmas.Balance.{of_kind_append}
 use Rattle.peer_parts.specs.Kept.{HasCounted}

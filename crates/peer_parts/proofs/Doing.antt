@@ -16,7 +16,7 @@ use Rattle.peer_machine.proofs.lemmas.Events.{happening}
 use Rattle.peer_machine.proofs.lemmas.Sends.{sent_now}
 use Rattle.peer_net.specs.NetState.{delivery, work_at}
 use Rattle.peer_words.specs.Words.{Words}
-use Rattle.peer_lengths.specs.Sends.{if_net, sends_of, sends_at, followed}
+use Rattle.peer_lengths.specs.Sends.{if_net, sends_of, followed}
 use Rattle.peer_lengths.proofs.lemmas.Following.{followed_more}
 use Rattle.peer_parts.specs.Deeds.{Deed, deed_at, deed_then, deeds, sent_of}
 use Rattle.peer_parts.specs.Parts.{node_of}

@@ -1,6 +1,6 @@
 -- The parts of a run, once an event more has happened.
-use Rattle.std.proofs.Common.{◌≡◌, ◌≢◌, ℕ, suc, ◌+◌, ◌-◌, ◌<◌, ◌≤◌, ◌^◌, Option, Some, List, [], ◌∷◌, ◌++◌, length, get_or, set, slice_index, refl, sym, ◌∙◌, ap, ap₂, subst, subst₂, ⊎_elim, arith, get_or-set_same, get_or-set_other, length-set, length-append, replicate, map, false, true}
-use Rattle.std.specs.List.{slice_index_or, sum_by, range_with_len}
+use Rattle.std.proofs.Common.{◌≡◌, ◌≢◌, ℕ, ◌+◌, ◌-◌, ◌<◌, ◌≤◌, ◌^◌, Option, Some, List, [], ◌∷◌, ◌++◌, length, get_or, set, slice_index, refl, sym, ◌∙◌, ap, ap₂, subst, ⊎_elim, arith, get_or-set_same, get_or-set_other, length-set, length-append, replicate, map, false}
+use Rattle.std.specs.List.{sum_by}
 use Rattle.std.specs.declared.alloc.AllocError.{AllocError}
 use Rattle.std.proofs.lemmas.Bool.{cases_eq}
 use Rattle.std.specs.Prelude.{Result, Ok, Err, OnOk}
@@ -9,14 +9,14 @@ use Rattle.std.proofs.lemmas.List.{ext_get_or, get_or-replicate, length-replicat
 use Rattle.std.proofs.lemmas.List.FromFn.{get_or-map-range_with_len, length-map-range_with_len}
 use Rattle.ghs_graph.specs.Graph.{Shape, IsGraph}
 use Rattle.peer_network.specs.declared.event.Event.{Event}
-use Rattle.peer_network.specs.Network.{Network, network_of}
+use Rattle.peer_network.specs.Network.{network_of}
 use Rattle.peer_network.proofs.lemmas.Sums.{term_le}
 use Rattle.peer_machine.specs.Rules.{Rules, Outcome, Outgoing, messages}
-use Rattle.peer_machine.specs.Net.{Net, event_node, opening}
+use Rattle.peer_machine.specs.Net.{event_node, opening}
 use Rattle.peer_machine.specs.Run as machine
 use Rattle.peer_machine.specs.Run.{IsRun}
 use Rattle.peer_machine.proofs.lemmas.Events.{happening}
-use Rattle.peer_machine.specs.Ledger.{in_all, of_kind}
+use Rattle.peer_machine.specs.Ledger.{of_kind}
 use Rattle.peer_machine.specs.Protocol.{IsBoundedBy, FitsGraphs}
 use Rattle.peer_machine.proofs.lemmas.Runs.{run_splits, after_is_net}
 use Rattle.peer_net.specs.NetState.{NetState, network, net_of}
@@ -24,7 +24,7 @@ use Rattle.peer_runs.specs.Following.{HasHappened}
 use Rattle.peer_words.specs.Words.{Words}
 use Rattle.peer_lengths.specs.Sends.{sends_of}
 use Rattle.peer_parts.specs.Deeds.{Deed, deed_at, deeds, sent_of}
-use Rattle.peer_parts.specs.Kept.{AreNodeParts, AreRowParts, HasCounted, IsRowOf, RowsState, counts_at, with_use}
+use Rattle.peer_parts.specs.Kept.{AreNodeParts, HasCounted, IsRowOf, counts_at, with_use}
 use Rattle.peer_parts.specs.Parts as parts
 use Rattle.peer_parts.specs.declared.rows.RowCount.{RowCount}
 use Rattle.peer_parts.proofs.AddingUp.{all_sent_of}

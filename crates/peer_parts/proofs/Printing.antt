@@ -23,27 +23,27 @@ use Rattle.peer_parts.proofs.Playing.{nodes_listed}
 
 module _ {S M : Type 0} (r : Rules S M) (words : Words S M) (has_ended : Shape → Net S M → Type 0) where
   one_printed : (text : List Event → List ℕ) (g : Shape) (setup : Setup) (seed : ℕ) (es : List Event) (end : RunEnd) (lines : List ℕ) →
-      IsRunThatEnds r has_ended seed setup.wake setup.turns g es end → lines ≡ text es → IsPrinted r words has_ended text g setup seed lines
+      IsRunThatEnds r has_ended setup.schedule_kind seed setup.wake setup.turns g es end → lines ≡ text es → IsPrinted r words has_ended text g setup seed lines
   one_printed text g setup seed es Ended lines run is = record { events = es; run = inl run; printed = is }
   one_printed text g setup seed es Stopped lines run is = record { events = es; run = inr run; printed = is }
 
   -- the lines of the run that the seed's schedule has made of a copy of the graph stand behind a text
   run_printed : (text : List Event → List ℕ) (g copy : Shape) (setup : Setup) (seed : ℕ) (es : List Event) (end : RunEnd) (lines old new : List ℕ)
       (x : Result (Unit {0}) AllocError) → copy ≡ g →
-      IsRunThatEnds r has_ended seed setup.wake setup.turns copy es end →
+      IsRunThatEnds r has_ended setup.schedule_kind seed setup.wake setup.turns copy es end →
       lines ≡ text es →
       IfOk x (λ _. new ≡ old ++ lines) →
       IfOk x (λ _. (more : List ℕ) × IsPrinted r words has_ended text g setup seed more × (new ≡ old ++ more))
   run_printed text g copy setup seed es end lines old new (Ok u) same run is put = (
     lines,
     one_printed text g setup seed es end lines
-        (subst (λ (s : Shape). IsRunThatEnds r has_ended seed setup.wake setup.turns s es end) same run) is,
+        (subst (λ (s : Shape). IsRunThatEnds r has_ended setup.schedule_kind seed setup.wake setup.turns s es end) same run) is,
     put,
   )
   run_printed text g copy setup seed es end lines old new (Err e) same run is put = tt
 
   module _ (form : Form) (front : List ℕ) (columns : List Column) (g copy : Shape) (setup : Setup) (seed : ℕ) (w : WorldState) (end : RunEnd)
-      (same : copy ≡ g) (ran : IsRan r has_ended seed setup.wake setup.turns copy w end) where
+      (same : copy ≡ g) (ran : IsRan r has_ended setup.schedule_kind seed setup.wake setup.turns copy w end) where
     -- the lines of its nodes
     pub nodes_printed : (parts all : List (List ℕ)) (old new : List ℕ) (x : Result (Unit {0}) AllocError) →
         AreNodeParts r words w.net.graph w.net.trace parts →

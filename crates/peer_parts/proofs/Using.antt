@@ -1,9 +1,8 @@
 -- A row that applies once more, where its place is known.
-use Rattle.std.proofs.Common.{◌≡◌, ℕ, zero, suc, ◌+◌, ◌<◌, Bool, true, false, Some, None, List, [], ◌∷◌, ◌++◌, cond, length, set, refl, sym, ap, arith, ◌∙◌}
+use Rattle.std.proofs.Common.{◌≡◌, ℕ, zero, suc, ◌+◌, Some, None, List, [], ◌∷◌, ◌++◌, set, refl, ap, arith}
 use Rattle.std.specs.List.{slice_index_or}
-use Rattle.std.specs.Str.{bytes_eq}
 use Rattle.peer_parts.specs.declared.rows.RowCount.{RowCount}
-use Rattle.peer_parts.specs.Kept.{IsPlaceOf, row_at, with_use}
+use Rattle.peer_parts.specs.Kept.{IsPlaceOf, with_use}
 
 -- the rows, where the one at a place has applied once more
 pub used_at : (xs : List RowCount) (row : List ℕ) (i : ℕ) (d : RowCount) → IsPlaceOf xs row (Some i) →

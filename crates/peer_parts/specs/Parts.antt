@@ -1,5 +1,5 @@
 -- The figures of a run by part: by the node that sends, or by the row that applies.
-use Rattle.std.specs.Prelude.{ℕ, ◌+◌, ◌==◌, Bool, List, [], ◌∷◌, map, if◌then◌else◌}
+use Rattle.std.specs.Prelude.{ℕ, ◌==◌, List, [], ◌∷◌, map, if◌then◌else◌}
 use Rattle.std.specs.List.{range_with_len, sum_by}
 use Rattle.std.specs.Str.{bytes_eq}
 use Rattle.ghs_graph.specs.Graph.{Shape}

@@ -1,4 +1,4 @@
-use Rattle.std.proofs.Common.{◌≡◌, ◌-◌, ◌<◌, ◌∙◌, [], List, ℕ, ap, arith, get_or, length, set, sym}
+use Rattle.std.proofs.Common.{◌≡◌, ◌-◌, ◌<◌, ◌∙◌, [], ℕ, ap, arith, length, set}
 use Rattle.std.proofs.lemmas.List.{get_or_default}
 use Rattle.peer_machine.specs.Net.{event_node}
 use Rattle.peer_parts.specs.Kept.{counts_at}

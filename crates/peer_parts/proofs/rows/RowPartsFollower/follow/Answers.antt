@@ -1,4 +1,4 @@
-use Rattle.std.proofs.Common.{◌-◌, ◌^◌, ◌<◌, ◌∙◌, length, sym, arith}
+use Rattle.std.proofs.Common.{◌-◌, ◌^◌, ◌∙◌, sym}
 use Rattle.peer_net.specs.NetState.{network}
 use Rattle.peer_parts.specs.Deeds.{deeds}
 use Rattle.peer_parts.specs.Parts.{rows_in}
