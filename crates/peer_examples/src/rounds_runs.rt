@@ -28,7 +28,7 @@ fn assert_run<P: Ends>(
     stops: Result<(), RunFault>,
 ) {
     let graph = graph_of_text(rt, alloc, TRIANGLE);
-    match World::<P>::open(alloc, graph, wake) {
+    match World::<P>::open(alloc, P::setting(), graph, wake) {
         Ok(mut world) => {
             let (count, end) = run_rounds(alloc, &mut world, &mut Schedule::seeded(seed), turns);
             assert!(rt; end == stops);
