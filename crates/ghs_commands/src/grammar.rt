@@ -9,7 +9,7 @@ use clap::{Arg, ArgAction, Command};
 use std::alloc::{AllocError, Global};
 
 /// The program's version, and by which kit its proofs hold.
-pub const VERSION: &str = "2.1.0, proved with rattle-kit-13f logic dac8208d650f15bf";
+pub const VERSION: &str = "2.2.0, proved with rattle-kit-13b logic dac8208d650f15bf";
 
 /// The program's commands, with their help.
 #[tactic(auto, unfolding(crate::specs::Grammar::program))]
