@@ -23,7 +23,8 @@ use Rattle.peer_parts.proofs.Playing.{nodes_listed}
 
 module _ {S M : Type 0} (r : Rules S M) (words : Words S M) (has_ended : Shape → Net S M → Type 0) where
   one_printed : (text : List Event → List ℕ) (g : Shape) (setup : Setup) (seed : ℕ) (es : List Event) (end : RunEnd) (lines : List ℕ) →
-      IsRunThatEnds r has_ended setup.schedule_kind seed setup.wake setup.turns g es end → lines ≡ text es → IsPrinted r words has_ended text g setup seed lines
+      IsRunThatEnds r has_ended setup.schedule_kind seed setup.wake setup.turns g es end → lines ≡ text es →
+      IsPrinted r words has_ended text g setup seed lines
   one_printed text g setup seed es Ended lines run is = record { events = es; run = inl run; printed = is }
   one_printed text g setup seed es Stopped lines run is = record { events = es; run = inr run; printed = is }
 
