@@ -175,11 +175,12 @@ pub(crate) fn told<P: Spoken + Fixed, W: Sink>(
     ensures unread { IsErrOf result ServeFault.Read → ⊥ }
     ensures unwritten { IfErr result (λ fault. is_write fault ≡ false → is_memory fault ≡ false → out.new ≡ out.old) }
 {
+    let wake = options.wake;
     write_steps::<P, W>(
         alloc,
         P::setting(),
         graph,
-        options.wake,
+        wake,
         events,
         &options.choice,
         options.form,

@@ -93,12 +93,13 @@ fn pair_viewed<P: Ends + Viewed>(
     ensures fault { IfErr result (λ fault. HasNoView P.rules P.has_ended options.now graph fault) }
 {
     let same = graph.copy(alloc)?;
+    let seed = options.seed;
     let (first, _) = run_by_seed::<P>(
         alloc,
         graph,
         options.wake,
         options.schedule_kind,
-        options.seed,
+        seed,
         options.turns,
     )?;
     viewed_beside(alloc, options, beside, same, &first)
@@ -172,11 +173,12 @@ pub(crate) fn stored_viewed<P: Ends + Viewed>(
     ensures text { IfOk result (λ text. IsStoredView P.rules (IsRunPage P.rules P.words P.looks P.bound) options.now graph events.now text.items) }
     ensures fault { IfErr result (λ fault. HasNoStoredView P.rules options.now graph events.now fault) }
 {
+    let wake = options.wake;
     match stored_page::<P>(
         alloc,
         P::setting(),
         graph,
-        options.wake,
+        wake,
         events,
         options.from,
         options.to,
