@@ -1,6 +1,6 @@
 // ---- all runs of the network at hand. The module explores them in a worker, so the page goes on; where the worker is ended, it stops
-// limits of states, the last by time and memory: 24 s and 578 MB by GHS on a busy machine, 11 s and 546 MB by the others, whose states are larger
-const LIMITS = [2000, 20000, 200000], LAST = [2000000, 1000000, 1000000];
+// limits of states before the protocol's last
+const LIMITS = [2000, 20000, 200000];
 let explored = null;
 const many = n => Number(n).toLocaleString('en-US');
 // in the worker: the module is asked by rising limits; as long as there are more states than the limit, that is its answer
@@ -24,8 +24,7 @@ async function exploreAll({ bytes, graph, first, by, limits }) {
   postMessage({ text });
 }
 const workerText = () => "'use strict';\nconst UTF8 = new TextEncoder(), TEXT = new TextDecoder();\nlet box = null;\n" + allot + '\n' + hold + '\n' + exploreAll + '\nonmessage = e => exploreAll(e.data).catch(e => postMessage({ failed: e.message }));\n';
-const BY = ['GHS', 'Bor\u016fvka in step', 'the echo wave'];
-const ofAll = () => 'By ' + BY[explored.by] + ', ' + (wakeFirst ? 'only the first node of each component wakes by itself' : 'all nodes may wake');
+const ofAll = () => 'By ' + PROTOCOLS[explored.by].by + ', ' + (wakeFirst ? 'only the first node of each component wakes by itself' : 'all nodes may wake');
 const passed = () => explored.passed ? 'more than ' + many(explored.passed) + ' states so far.' : 'exploring.';
 function allState(text, working) {
   $('allstate').textContent = text;
@@ -58,7 +57,7 @@ function beginAll() {
     showAll(data.text);
   };
   now.worker.onerror = () => { if (explored === now) endAll(NO_WORKER); };
-  now.worker.postMessage({ bytes: moduleBytes(), graph: graphText, first: wakeFirst ? 1 : 0, by, limits: [...LIMITS, LAST[by]] });
+  now.worker.postMessage({ bytes: moduleBytes(), graph: graphText, first: wakeFirst ? 1 : 0, by, limits: [...LIMITS, PROTOCOLS[by].states] });
 }
 const capital = text => text[0].toUpperCase() + text.slice(1);
 // the lines that the program prints too: a row each, the least and the greatest sum with the bound, the states; then a run of each row
@@ -68,15 +67,17 @@ function showAll(text) {
   const [lines, ...runs] = text.split(/^(?=trace )/m), words = lines.trimEnd().split('\n').map(line => line.split(' '));
   const rows = words.filter(w => w[0] === 'e').map(w => ({ sum: +w[2], sent: w.slice(3).map(x => x.split('=')) })), [, least, greatest, bound] = words.find(w => w[0] === 'r'), states = words.find(w => w[0] === 'x')[1];
   Object.assign(explored, { rows, runs });
-  const own = explored.by === 0, sums = least === greatest ? 'Each run sends ' + least + ' messages' : 'No run sends fewer than ' + least + ' messages or more than ' + greatest;
-  allState(ofAll() + ': ' + many(states) + ' states. ' + sums + ' (the bound is ' + bound + '). ' + (rows.length === 1 ? 'Each run ends with these counts.' : 'Each run ends with one of these ' + many(rows.length) + ' rows of counts, and each row occurs.') + (own ? '' : ' This page leads runs of GHS only, so no row can be opened.'), false);
-  $('allrows').innerHTML = '<table><tr>' + (own ? '<th></th>' : '') + ['sum', ...rows[0].sent.map(([name]) => name)].map(name => '<th class="n"><span>' + name + '</span></th>').join('') + '</tr>'
-    + rows.map((r, k) => '<tr>' + (own ? '<td><button data-row="' + k + '" title="opens a run that ends so">open</button></td>' : '') + '<td class="n"><b>' + r.sum + '</b></td>' + r.sent.map(([, n]) => '<td class="n">' + n + '</td>').join('') + '</tr>').join('') + '</table>';
+  const sums = least === greatest ? 'Each run sends ' + least + ' messages' : 'No run sends fewer than ' + least + ' messages or more than ' + greatest;
+  allState(ofAll() + ': ' + many(states) + ' states. ' + sums + ' (the bound is ' + bound + '). ' + (rows.length === 1 ? 'Each run ends with these counts.' : 'Each run ends with one of these ' + many(rows.length) + ' rows of counts, and each row occurs.'), false);
+  $('allrows').innerHTML = '<table><tr><th></th>' + ['sum', ...rows[0].sent.map(([name]) => name)].map(name => '<th class="n"><span>' + name + '</span></th>').join('') + '</tr>'
+    + rows.map((r, k) => '<tr><td><button data-row="' + k + '" title="opens a run that ends so">open</button></td><td class="n"><b>' + r.sum + '</b></td>' + r.sent.map(([, n]) => '<td class="n">' + n + '</td>').join('') + '</tr>').join('') + '</table>';
 }
 function openRow(k) {
   const was = stateNow();
-  if (!load(graphText, explored.runs[k], 0)) return;
+  by = explored.by;
+  if (!load(graphText, explored.runs[k], 0, placed)) { by = was.by; return; }
   ledOn();
+  if (by !== was.by) leaveTask();
   setAside(was, '');
 }
 // what was explored of another network, or for another wake set, isn't of this page any more
@@ -84,7 +85,7 @@ function keepAll() {
   if (explored && (explored.graph !== graphText || explored.first !== wakeFirst)) endAll('The network or its wake set has changed.');
 }
 function alls() {
-  $('allruns').onclick = () => { $('all').hidden = false; beginAll(); $('all').scrollIntoView({ block: 'nearest' }); };
+  $('allruns').onclick = () => { $('all').hidden = false; $('allby').value = by; beginAll(); $('all').scrollIntoView({ block: 'nearest' }); };
   $('closeall').onclick = () => { endAll(); $('all').hidden = true; };
   $('goall').onclick = $('allby').onchange = beginAll;
   $('stopall').onclick = () => endAll('Stopped: ' + (explored.passed ? 'there are more than ' + many(explored.passed) + ' states.' : 'no limit is passed yet.'));

@@ -1,4 +1,12 @@
 'use strict';
+// ---- the protocols, by their numbers at the module: the name in heads of stored runs, the words of the page, what is
+// found, and the last limit of states that are explored, by time and memory: 24 s and 578 MB by GHS on a busy machine, 11 s and 546 MB
+// by the others, whose states are larger
+const PROTOCOLS = [
+  { name: 'ghs', title: 'GHS', by: 'GHS', finds: 'the minimum spanning forest', states: 2000000 },
+  { name: 'boruvka', title: 'Bor\u016fvka in step', by: 'Bor\u016fvka in step', finds: 'the minimum spanning forest', states: 1000000 },
+  { name: 'echo', title: 'echo wave', by: 'the echo wave', finds: 'a tree for each node that woke by itself', states: 1000000 },
+];
 // ---- the module: the program's own rules, which are proved. The page asks it, and knows no rule of its own.
 const UTF8 = new TextEncoder(), TEXT = new TextDecoder();
 let box = null, room = 0n, roomSize = 1 << 16;
@@ -15,15 +23,14 @@ function hold(text) {
   return [at, BigInt(bytes.length)];
 }
 // a call is asked again with more room where its answer didn't fit; it keeps nothing, so it answers the same
-function call(f, graph, trace, ...more) {
-  const g = hold(graph), t = hold(trace);
+function call(f, p, texts, ...more) {
+  const held = texts.map(hold);
   for (;;) {
     room = room || allot(roomSize);
-    const n = Number(f(wakeFirst ? 1 : 0, ...g, ...t, ...more, room, BigInt(roomSize)));
+    const n = Number(f(wakeFirst ? 1 : 0, p, ...held.flat(), ...more, room, BigInt(roomSize)));
     if (n <= roomSize) {
       const text = TEXT.decode(new Uint8Array(box.memory.buffer, Number(room), n));
-      box.heap_free(g[0]);
-      box.heap_free(t[0]);
+      for (const [at] of held) box.heap_free(at);
       return text;
     }
     box.heap_free(room);
@@ -31,17 +38,23 @@ function call(f, graph, trace, ...more) {
     roomSize = 2 * n;
   }
 }
-const seenOf = (graph, trace) => call(box.ghs_web_seen, graph, trace);
-const runOf = (graph, trace, patient, seed) => call(box.ghs_web_run, graph, trace, patient ? 1 : 0, BigInt.asIntN(64, BigInt(seed)));
+const wordOf = seed => BigInt.asIntN(64, BigInt(seed));
+const seenOf = (graph, trace, p = by) => call(box.ghs_web_seen, p, [graph, trace]);
+const runOf = (graph, trace, patient, seed) => call(box.ghs_web_run, by, [graph, trace], patient ? 1 : 0, wordOf(seed));
+const timedOf = (graph, seed, p) => call(box.ghs_web_timed, p, [graph], wordOf(seed));
 const faultOf = text => text.startsWith('{"fault"') ? JSON.parse(text) : null;
 
-// ---- what is led: the graph's text and the events; the moment at which one looks is the page's
-let graphText = '', wakeFirst = false, offered = new Map(), offers = new Map(), ended = false, pointed = null, givenUp = null;
+// ---- what is led: the graph's text, the protocol and the events; the moment at which one looks is the page's
+let graphText = '', wakeFirst = false, by = 0, shownBy = 0, offered = new Map(), offers = new Map(), ended = false, pointed = null, givenUp = null;
 // where the nodes of a drawn network stand
 let placed = null;
 const keyOf = e => e.join(' ');
 const eventsNow = () => steps.map(s => s.port === null ? [s.node] : [s.node, s.port]);
-const traceOf = es => 'trace ' + es.length + '\n' + es.map(e => (e.length === 1 ? 'wake ' : 'take ') + keyOf(e) + '\n').join('');
+const headOf = (p, n) => 'trace ' + (p ? PROTOCOLS[p].name + ' ' : '') + n + '\n';
+const eventsText = (p, es) => headOf(p, es.length) + es.map(e => (e.length === 1 ? 'wake ' : 'take ') + keyOf(e) + '\n').join('');
+const traceOf = es => eventsText(by, es);
+// the protocol that the head of a stored run names; of another name the module says what is wrong
+const protocolIn = trace => { const [, name] = /^\s*trace\s+(\D\S*)\s/.exec(trace) || []; return Math.max(0, PROTOCOLS.findIndex(p => p.name === name)); };
 const choicesIn = text => {
   const at = text.indexOf('{"may":'), lines = at < 0 ? [] : text.slice(at).split('\n').filter(x => x.startsWith('{"may":')).map(x => JSON.parse(x));
   return new Map(lines.map(o => [keyOf(o.may), o]));
@@ -55,11 +68,11 @@ function say(text, back) {
 }
 const refuse = fault => { say((fault.fault === 'memory' ? '' : fault.fault + ': ') + fault.words + '. Nothing has changed.'); return false; };
 // the whole state, and the page as it was in one
-const stateNow = () => ({ graph: graphText, first: wakeFirst, trace: traceOf(eventsNow()), at, placed, events: steps.length });
+const stateNow = () => ({ graph: graphText, first: wakeFirst, by, trace: traceOf(eventsNow()), at, placed, events: steps.length });
 function restore(was) {
-  const now = wakeFirst;
-  wakeFirst = was.first;
-  if (!load(was.graph, was.trace, was.at, was.placed)) { wakeFirst = now; return false; }
+  const now = [wakeFirst, by];
+  [wakeFirst, by] = [was.first, was.by];
+  if (!load(was.graph, was.trace, was.at, was.placed)) { [wakeFirst, by] = now; return false; }
   $('wakers').value = wakeFirst ? 'first' : '';
   return true;
 }
@@ -98,10 +111,11 @@ function load(graph, trace, k, places = null) {
   const text = seenOf(graph, trace), fault = faultOf(text);
   if (fault) return refuse(fault);
   if (timer) halt();
-  const same = graph === graphText && (!places || String(places) === String(placed));
+  const same = graph === graphText && by === shownBy && (!places || String(places) === String(placed));
   asking = false;
   fill(text, same);
   graphText = graph;
+  if (by !== shownBy) dress();
   if (!same) placed = places && places.length === G.nodes ? places : null;
   if (placed) unit = unitOf(placed);
   offers = new Map([[G.to, choicesIn(text)]]);
@@ -116,6 +130,23 @@ function load(graph, trace, k, places = null) {
   say('');
   if (same) { strip(); show(); } else relay();
   return true;
+}
+// what of the page is the protocol's
+function dress() {
+  shownBy = by;
+  $('by').value = by;
+  for (const id of ['skip', 'patient']) $(id).closest('label').hidden = !PUTS;
+  $('guessing').closest('.set').hidden = !PUTS;
+  document.body.classList.toggle('ruled', !by);
+  $('goal').innerHTML = goals().map(([k, t]) => '<option value="' + k + '">' + t + '</option>').join('');
+}
+// another protocol begins a run of the network at hand
+function setBy(p) {
+  const was = stateNow();
+  by = p;
+  if (!load(graphText, traceOf([]), 0, placed)) { by = was.by; return; }
+  leaveGuide();
+  setAside(was, 'Another protocol.');
 }
 // what may come next at an event of the run
 function offersAt(k) {
@@ -150,10 +181,15 @@ function takeBack() {
   const es = eventsNow(), lost = es.length - at, was = stateNow();
   if (at && load(graphText, traceOf(es.slice(0, at - 1)), at - 1)) { if (lost) giveUp(lost, was); ledOn(); }
 }
+function seedNow() {
+  const seed = $('seed').value.trim(), ok = /^\d{1,20}$/.test(seed) && BigInt(seed) < 1n << 64n;
+  if (!ok) say('A seed is a number from 0 to 18446744073709551615.');
+  return ok ? seed : null;
+}
 function goOn() {
   const es = eventsNow(), k = at, lost = es.length - k, was = stateNow();
-  const seed = $('seed').value.trim();
-  if (!/^\d{1,20}$/.test(seed) || BigInt(seed) >= 1n << 64n) return say('A seed is a number from 0 to 18446744073709551615.');
+  const seed = seedNow();
+  if (seed === null) return;
   const text = runOf(graphText, traceOf(es.slice(0, k)), $('patient').checked, seed), fault = faultOf(text);
   if (fault) return refuse(fault);
   if (!load(graphText, text, k)) return;
@@ -166,17 +202,17 @@ function goOn() {
 // ---- what may come next, in the network and in the pane
 const placeOf = key => key.split(' ').map(Number);
 // while a guess is asked first, nothing tells which events only defer
-const hides = () => $('guessing').checked;
+const hides = () => PUTS && $('guessing').checked;
 const wording = (key, o) => {
   const [v, p] = placeOf(key), m = p === undefined ? null : queue(v, p)[0];
   return 'Node ' + v + (m ? ' takes ' + words(m) + ' from node ' + m.from : ' wakes') + (o.waits && !hides() ? ' (it would defer it)' : '');
 };
-const END = () => 'The run has ended: the ' + TREE() + ' links are the minimum spanning forest.' + (offersAt(G.to).size ? ' Messages still under way can\'t change the tree.' : '');
+const END = () => 'The run has ended: the ' + TREE() + ' links are ' + PROTOCOLS[by].finds + '.' + (offersAt(G.to).size ? ' Messages still under way can\'t change the tree.' : '');
 function offer() {
   if (ended && at === G.to && !$('note').textContent) say(END());
   else if (at < G.to && $('note').textContent === END()) say('');
   offered = timer || asking || touring() ? new Map() : offersAt(at);
-  if ($('moving').checked) offered = new Map([...offered].filter(([, o]) => !o.waits));
+  if (PUTS && $('moving').checked) offered = new Map([...offered].filter(([, o]) => !o.waits));
   if (!offered.has(pointed)) pointed = null;
   const next = at < G.to ? keyOf(eventsNow()[at]) : null;
   for (let v = 1; v <= G.nodes; v++) {
@@ -220,8 +256,8 @@ const showRun = show, haltRun = halt, tipOf = tip;
 show = function () {
   showRun();
   const rule = $('say').querySelector('.row');
-  if (rule && ROWS[rule.textContent]) { rule.tabIndex = 0; rule.setAttribute('role', 'button'); rule.title = 'shows the rule'; }
-  if (graphText) { offer(); guide(); keepAll(); }
+  if (rule && !by && ROWS[rule.textContent]) { rule.tabIndex = 0; rule.setAttribute('role', 'button'); rule.title = 'shows the rule'; }
+  if (graphText) { offer(); guide(); keepAll(); keepTwo(); }
 };
 halt = function () { const was = timer; haltRun(); if (was && graphText) offer(); };
 // what a message is that may be taken, or stands behind another
@@ -251,19 +287,19 @@ address = function () {
   const head = addressOf();
   if (graphText.length > ADDRESS) return head;
   if (touring()) return '#tour=' + (tourAt + 1);
-  const whole = head + '&g=' + coded(graphText) + '&e=' + short_events(eventsNow()) + (wakeFirst ? '&first' : '') + (placed ? '&p=' + placed.map(p => p.map(Math.round).join('.')).join(',') : '') + (task ? '&task=' + task.id : '');
+  const whole = head + '&g=' + coded(graphText) + '&e=' + short_events(eventsNow()) + (wakeFirst ? '&first' : '') + (by ? '&by=' + PROTOCOLS[by].name : '') + (placed ? '&p=' + placed.map(p => p.map(Math.round).join('.')).join(',') : '') + (task ? '&task=' + task.id : '');
   return whole.length > ADDRESS ? head : whole;
 };
 const ledIn = hash => {
   const found = /^#(\d+)[^&]*&g=([^&]*)&e=([^&]*)((?:&[^&]*)*)$/.exec(hash), more = new URLSearchParams(found ? found[4] : '');
-  try { return found && { at: +found[1], graph: decoded(found[2]), events: long_events(found[3]), first: more.has('first'), task: more.get('task'), placed: more.has('p') ? more.get('p').split(',').map(p => p.split('.').map(Number)) : null }; } catch { return null; }
+  try { return found && { at: +found[1], graph: decoded(found[2]), events: long_events(found[3]), first: more.has('first'), by: Math.max(0, PROTOCOLS.findIndex(p => p.name === more.get('by'))), task: more.get('task'), placed: more.has('p') ? more.get('p').split(',').map(p => p.split('.').map(Number)) : null }; } catch { return null; }
 };
 goAddress = function (hash = location.hash) {
   if (!graphText || hash === address()) return;
   if (goGuide(hash)) return;
   const led = ledIn(hash), head = hash.split('&')[0];
-  if (led && (led.graph !== graphText || led.first !== wakeFirst || short_events(led.events) !== short_events(eventsNow()))) {
-    if (!restore({ ...led, trace: traceOf(led.events) })) return;
+  if (led && (led.graph !== graphText || led.first !== wakeFirst || led.by !== by || short_events(led.events) !== short_events(eventsNow()))) {
+    if (!restore({ ...led, trace: eventsText(led.by, led.events) })) return;
   }
   if (led) setTaskOf(led);
   history.replaceState(null, '', head);
@@ -291,22 +327,25 @@ function takeGraph(text, places = null) {
   const was = stateNow(), wake = /^c wake (all|first)\s*$/m.exec(text), told = [...text.matchAll(/^c place (\d+) (\d+) (\d+)\s*$/gm)];
   for (const [, v, x, y] of told) (places ??= [])[v - 1] = [+x, +y];
   if (wake) wakeFirst = wake[1] === 'first';
-  if (!load(text.replace(COMMENTS, ''), 'trace 0\n', 0, places)) { wakeFirst = was.first; return false; }
+  if (!load(text.replace(COMMENTS, ''), traceOf([]), 0, places)) { wakeFirst = was.first; return false; }
   $('wakers').value = wakeFirst ? 'first' : '';
   leaveGuide();
   setAside(was, 'Another network.');
   return true;
 }
-// a run that fits the other wake set alone is taken with it, and that is said
+// a run is taken with its protocol; one that fits the other wake set alone is taken with that, and it is said
 function takeTrace(text) {
-  const was = stateNow(), fault = faultOf(seenOf(graphText, text));
+  const was = stateNow();
+  by = protocolIn(text);
+  const fault = faultOf(seenOf(graphText, text));
   if (fault) {
     wakeFirst = !wakeFirst;
-    if (faultOf(seenOf(graphText, text))) { wakeFirst = !wakeFirst; return refuse(fault); }
+    if (faultOf(seenOf(graphText, text))) { [wakeFirst, by] = [was.first, was.by]; return refuse(fault); }
     $('wakers').value = wakeFirst ? 'first' : '';
   }
-  load(graphText, text, 0);
+  load(graphText, text, 0, placed);
   ledOn();
+  if (by !== was.by) leaveTask();
   const why = fault ? 'This run fits only if ' + (wakeFirst ? 'the first node of each component' : 'all nodes') + ' may wake by themselves, so "wake" is changed.' : '';
   setAside(was, why);
   if (why && !$('note').textContent) say(why);
@@ -328,21 +367,21 @@ function keep(name, text) {
 function setWakers(value) {
   const was = stateNow();
   wakeFirst = value === 'first';
-  if (faultOf(seenOf(graphText, was.trace))) { if (load(graphText, 'trace 0\n', 0)) setAside(was, 'The run does not fit this wake set.'); } else load(graphText, was.trace, was.at);
+  if (faultOf(seenOf(graphText, was.trace))) { if (load(graphText, traceOf([]), 0)) setAside(was, 'The run does not fit this wake set.'); } else load(graphText, was.trace, was.at);
   leaveTask();
 }
 
 // ---- a hundred seeds of the graph at hand: what their runs come to
 const SEEDS = 100, MEASURES = [['messages sent', l => l.sent.reduce((a, b) => a + b)], ['deferrals', l => l.requeued], ['events', l => l.ledger]];
-const measures = () => MEASURES.concat(KINDS.map((k, i) => [NAMES[k], l => l.sent[i]]));
+const measures = () => MEASURES.filter(([name]) => PUTS || name !== 'deferrals').concat(KINDS.map((k, i) => [NAMES[k], l => l.sent[i]]));
 const ledgerOf = text => { const i = text.lastIndexOf('{"ledger":'); return JSON.parse(text.slice(i, text.indexOf('\n', i))); };
 function hundred() {
-  const patient = $('patient').checked, graph = graphText, found = [];
+  const patient = PUTS && $('patient').checked, graph = graphText, found = [];
   $('figures').innerHTML = '<p>Seed 0 ..</p>';
   $('many').showModal();
   const next = () => {
     if (!$('many').open || graph !== graphText) return;
-    const seed = found.length, trace = runOf(graph, 'trace 0\n', patient, seed), fault = faultOf(trace);
+    const seed = found.length, trace = runOf(graph, traceOf([]), patient, seed), fault = faultOf(trace);
     if (fault) { $('figures').innerHTML = '<p>' + fault.words + '</p>'; return; }
     found.push(ledgerOf(seenOf(graph, trace)));
     if (found.length < SEEDS) { if (seed % 5 === 0) $('figures').firstChild.textContent = 'Seed ' + seed + ' ..'; setTimeout(next, 0); } else printSeeds(found, patient);
@@ -357,7 +396,7 @@ function printSeeds(found, patient) {
   const sends = found.map(MEASURES[0][1]), low = Math.min(...sends), counts = [];
   for (const x of sends) counts[x - low] = (counts[x - low] || 0) + 1;
   const most = Math.max(...counts.filter(x => x)), bars = counts.length, w = Math.min(60, 520 / bars), last = low + bars - 1, mid = (i, x) => '<text x="' + (40 + (i + .5) * w).toFixed(1) + '" y="112">' + x + '</text>';
-  $('figures').innerHTML = '<p>Seeds 0 to ' + (SEEDS - 1) + ', ' + (patient ? 'skipping useless deliveries' : 'among all events') + '. At most ' + G.bound + ' messages are sent.</p><table><tr><th></th><th class="n">fewest</th><th class="n">mean</th><th class="n">most</th></tr>' + measures().map(row).join('') + '</table>'
+  $('figures').innerHTML = '<p>Seeds 0 to ' + (SEEDS - 1) + ', ' + 'by ' + PROTOCOLS[by].by + (patient ? ', skipping useless deliveries' : ', among all events') + '. At most ' + G.bound + ' messages are sent.</p><table><tr><th></th><th class="n">fewest</th><th class="n">mean</th><th class="n">most</th></tr>' + measures().map(row).join('') + '</table>'
     + (bars < 2 ? '<p>All ' + found.length + ' runs send ' + low + ' messages.</p>' : '<p>How many runs send how many messages:</p><svg viewBox="0 0 570 120" role="img" aria-label="a bar for each number of messages sent">' + Array.from(counts, (x, i) => x ? '<rect x="' + (40 + i * w + .5).toFixed(1) + '" width="' + Math.max(1, w - 1).toFixed(1) + '" y="' + (96 - 84 * x / most).toFixed(1) + '" height="' + (84 * x / most).toFixed(1) + '"><title>' + (low + i) + ' messages: ' + x + ' runs</title></rect>' : '').join('')
       + '<path d="M38 10V96H566"/><text class="left" x="34" y="16">' + most + '</text><text class="left" x="34" y="98">0</text>' + mid(0, low) + mid(bars - 1, last) + (bars > 4 ? mid((bars - 1) / 2, ((low + last) / 2).toFixed(0)) : '') + '</svg>');
   $('figures').onclick = e => {
@@ -365,7 +404,7 @@ function printSeeds(found, patient) {
     $('many').close();
     $('seed').value = e.target.dataset.seed;
     const was = stateNow();
-    if (load(graphText, runOf(graphText, 'trace 0\n', patient, e.target.dataset.seed), 0)) { ledOn(); setAside(was, ''); }
+    if (load(graphText, runOf(graphText, traceOf([]), patient, e.target.dataset.seed), 0)) { ledOn(); setAside(was, ''); }
   };
 }
 
@@ -384,6 +423,8 @@ function hands() {
   $('example').innerHTML = '<option value="">your own</option>' + Object.keys(EXAMPLES).map(x => '<option>' + x + '</option>').join('');
   $('example').onchange = e => { const text = EXAMPLES[e.target.value]; if (text) take(text); else $('drawit').click(); };
   $('wakers').onchange = e => setWakers(e.target.value);
+  for (const id of ['by', 'allby', 'oneby', 'otherby']) $(id).innerHTML = PROTOCOLS.map((p, i) => '<option value="' + i + '">' + p.title + '</option>').join('');
+  $('by').onchange = e => setBy(+e.target.value);
   $('open').onclick = () => $('file').click();
   $('file').onchange = e => { const file = e.target.files[0]; e.target.value = ''; if (file) takeFile(file); };
   $('savegraph').onclick = () => keep('graph.gr', commented());
@@ -391,6 +432,7 @@ function hands() {
   $('hundred').onclick = hundred;
   $('closemany').onclick = () => $('many').close();
   alls();
+  twos();
   boards();
   guides();
   addEventListener('paste', e => { const text = e.clipboardData.getData('text'); if (!e.target.matches('input, textarea') && text.trim()) { e.preventDefault(); take(text); } });

@@ -40,7 +40,7 @@ function unitOf(points) {
 }
 function useDrawn() {
   if (!judgeWeights()) return;
-  const fault = faultOf(seenOf(drawnText(), 'trace 0\n'));
+  const fault = faultOf(seenOf(drawnText(), traceOf([])));
   if (fault) { $('drawnote').textContent = drawing.points.length ? fault.words : 'Set at least one node.'; return; }
   $('draw').close();
   takeGraph(drawnText(), drawing.points.map(p => p.map(Math.round)));

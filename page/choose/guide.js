@@ -87,7 +87,7 @@ function explore(t, m, answer) {
 let task = null, taskState = { key: '' }, answered = 0, theirs = false, doneTasks = new Set((recall('done') || '').split(' ').filter(x => x));
 const taskOf = id => TASKS.find(t => t.id === id) || null;
 const wakeOf = t => t.wake === 'first';
-const ownTask = () => task && graphText === EXAMPLES[task.graph] && wakeFirst === wakeOf(task);
+const ownTask = () => task && !by && graphText === EXAMPLES[task.graph] && wakeFirst === wakeOf(task);
 // a run that somebody else has led doesn't do the task for the reader
 function setTask(id, another = false) {
   task = taskOf(id || ''); taskState = { key: '' }; answered = 0; theirs = another;
@@ -100,6 +100,7 @@ function beginTask(id) {
   leaveTour();
   for (const d of document.querySelectorAll('dialog[open]')) d.close();
   wakeFirst = wakeOf(t);
+  by = 0;
   $('wakers').value = wakeFirst ? 'first' : '';
   load(EXAMPLES[t.graph], 'trace 0\n', 0);
   setTask(id);
@@ -121,7 +122,7 @@ function taskNow() {
   return taskState;
 }
 function taskSays() {
-  if (!ownTask()) return ['', 'This is another network than the task\'s.'];
+  if (!ownTask()) return ['', 'This is another ' + (by ? 'protocol' : 'network') + ' than the task\'s.'];
   const { m, hopeless } = taskNow();
   if (m.done && task.ask && answered !== task.right) return ['half', 'Event ' + m.done + ' completes the run. ' + (answered ? 'That is not the reason.' : 'Now answer:')];
   if (m.done) return ['done', 'Done by event ' + m.done + '.'];
@@ -144,8 +145,9 @@ function goTour(k) {
   if (began && was.events) beforeTour = was;
   document.body.classList.add('touring');
   wakeFirst = false;
+  by = 0;
   $('wakers').value = '';
-  if (graphText !== EXAMPLES[step.graph] || traceOf(eventsNow()) !== TOUR_RUNS[step.graph]) load(EXAMPLES[step.graph], TOUR_RUNS[step.graph], step.at); else { if (timer) halt(); asking = false; goto(step.at); }
+  if (shownBy || graphText !== EXAMPLES[step.graph] || traceOf(eventsNow()) !== TOUR_RUNS[step.graph]) load(EXAMPLES[step.graph], TOUR_RUNS[step.graph], step.at); else { if (timer) halt(); asking = false; goto(step.at); }
   pin = 0;
   zoom = { k: 1, x: 0, y: 0 };
   say('');
@@ -215,7 +217,7 @@ function listTasks() {
 
 // ---- a guess before each message of one's own
 const score = { right: 0, all: 0 };
-const guessing = key => $('guessing').checked && key.includes(' ');
+const guessing = key => hides() && key.includes(' ');
 function guessAt(k) {
   goto(k);
   asking = true;
@@ -239,7 +241,7 @@ function ownGuess(e) {
 const RULES = @RULES@, ROWS = @ROWS@;
 const marked = text => text.replace(/&/g, '&amp;').replace(/</g, '&lt;').replace(/\*\*(.+?)\*\*/g, '<b>$1</b>').replace(/\*(.+?)\*/g, '<i>$1</i>').replace(/`(.+?)`/g, '<code>$1</code>');
 function openRule(row) {
-  const [name, ...lines] = ROWS[row] || [];
+  const [name, ...lines] = !by && ROWS[row] || [];
   if (!name) return;
   const { work, does } = RULES.works[name];
   $('rulename').textContent = row;
@@ -288,14 +290,15 @@ const bare = graph => graph.split('\n').filter(x => x.trim() && !/^c(\s|$)/.test
 // what is handed in, judged: the run is played again, and only what that gives counts
 function judgeHandIn(o) {
   if (o.refused) return { ...o, how: 'refused', why: o.refused };
-  const t = taskOf(o.task), was = wakeFirst;
-  wakeFirst = o.wake === 'first';
+  const t = taskOf(o.task), was = [wakeFirst, by], of = protocolIn(o.trace);
+  [wakeFirst, by] = [o.wake === 'first', of];
   const text = seenOf(o.graph, o.trace), fault = faultOf(text);
-  wakeFirst = was;
+  [wakeFirst, by] = was;
   if (fault) return { ...o, how: 'refused', why: fault.words };
   const ran = ranOf(text);
   if (!o.task) return { ...o, how: 'run', why: ran.steps.length + ' events' };
   if (!t) return { ...o, how: 'refused', why: 'there is no such task' };
+  if (of) return { ...o, how: 'refused', why: 'another protocol than the task\'s' };
   if (bare(o.graph) !== bare(EXAMPLES[t.graph])) return { ...o, how: 'refused', why: 'another network than the task\'s' };
   if (o.wake !== (wakeOf(t) ? 'first' : 'all')) return { ...o, how: 'refused', why: 'another wake set than the task\'s' };
   const m = judge(t, ran);
@@ -311,7 +314,7 @@ function openHandIn(text) {
 function showHandIn(o) {
   const was = stateNow(), words = (o.name || 'Somebody') + (o.task ? ', task ' + o.task : '') + ': ' + o.how + (o.why ? ', ' + o.why : '') + '.';
   leaveTour();
-  if (!restore({ graph: o.graph, first: o.wake === 'first', trace: o.trace, at: 0, placed: null })) return false;
+  if (!restore({ graph: o.graph, first: o.wake === 'first', by: protocolIn(o.trace), trace: o.trace, at: 0, placed: null })) return false;
   move(G.to);
   setTask(o.task, true);
   answered = /^[1-9]$/.test(o.answer) ? +o.answer : 0;
@@ -371,7 +374,7 @@ function guides() {
   $('guide').onclick = e => {
     const does = {
       tourback: () => goTour(tourAt - 1), tournext: () => tourAt === TOUR.length - 1 ? (leaveTour(), listTasks()) : goTour(tourAt + 1), tourleave: leaveTour,
-      taskhint: () => { say(task.hint); }, taskover: () => { const was = stateNow(); wakeFirst = wakeOf(task); load(EXAMPLES[task.graph], 'trace 0\n', 0); setTask(task.id); setAside(was, ''); },
+      taskhint: () => { say(task.hint); }, taskover: () => { const was = stateNow(); wakeFirst = wakeOf(task); by = 0; load(EXAMPLES[task.graph], 'trace 0\n', 0); setTask(task.id); setAside(was, ''); },
       tasknext: () => beginTask(TASKS[(TASKS.indexOf(task) + 1) % TASKS.length].id), taskhand: openHandInDialog, tasklistgo: listTasks, taskleave: () => setTask(''),
     }[e.target.id];
     if (does) does();
@@ -394,10 +397,10 @@ function guides() {
 }
 async function begin() {
   const led = ledIn(location.hash), graph = led ? led.graph : EXAMPLES.triangle, hash = location.hash;
-  wakeFirst = !!led && led.first;
+  [wakeFirst, by] = led ? [led.first, led.by] : [false, 0];
   await power();
   let text = seenOf(graph, traceOf(led ? led.events : [])), fault = faultOf(text);
-  if (fault) { wakeFirst = false; text = seenOf(EXAMPLES.triangle, 'trace 0\n'); }
+  if (fault) { [wakeFirst, by] = [false, 0]; text = seenOf(EXAMPLES.triangle, 'trace 0\n'); }
   graphText = '';
   $('steps').textContent = text;
   start();
@@ -408,6 +411,7 @@ async function begin() {
   if (led && !fault && led.placed && led.placed.length === G.nodes) { placed = led.placed; unit = unitOf(placed); relay(); }
   offers = new Map([[G.to, choicesIn(text)]]);
   ended = hasEnded(text);
+  dress();
   $('wakers').value = wakeFirst ? 'first' : '';
   $('example').value = Object.keys(EXAMPLES).find(name => EXAMPLES[name] === graphText) || '';
   $('what').textContent = G.nodes + ' nodes, ' + G.links + ' links, ' + G.events + ' events';

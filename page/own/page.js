@@ -10,7 +10,7 @@ const SUITS = { echo: { wake: 'first', end: 'quiet', check: 'spanning' }, ghs: {
 const many = (n, word) => n + ' ' + word + (n === 1 ? '' : 's');
 const escaped = s => String(s).replace(/[&<>"]/g, c => ({ '&': '&amp;', '<': '&lt;', '>': '&gt;', '"': '&quot;' })[c]);
 
-const proved = (f, graph, trace) => answered(([g, t], bytes) => f(here.wake === 'first' ? 1 : 0, ...g, ...t, ...bytes), [graph, trace]);
+const proved = (f, graph, trace) => answered(([g, t], bytes) => f(here.wake === 'first' ? 1 : 0, 0, ...g, ...t, ...bytes), [graph, trace]);
 
 // ---- what is at hand: the graph, the rules or a book, and the run that is looked at
 const here = { graphText: null, graph: null, rulesText: null, rules: null, asked: null, book: null, net: null, wake: 'all' };

@@ -10,8 +10,7 @@ use Rattle.boruvka_node.specs.State.{State, no_port}
 use Rattle.boruvka_node.specs.declared.message.Message.{Message}
 use Rattle.boruvka_node.specs.declared.message.Message.TheVariants.{Connect, Initiate, Name, Report, ChangeRoot}
 use Rattle.boruvka_node.specs.Boruvka.{boruvka}
-use Rattle.boruvka.specs.Words.{kind_word, mark_of, mark_word, says, touched_by, touched_of, words}
-use Rattle.peer_words.specs.Words.{HaveSameNames}
+use Rattle.boruvka.specs.Words.{kind_word, mark_of, mark_word, says, touched_by, touched_of}
 use Rattle.peer_words.specs.Touched.{is_touched}
 
 kept : (ps : List PortState) (x : Option (ℕ × PortState)) (o : Option Entry) (p : ℕ) → is_touched (touched_of x o) p ≡ false →
@@ -26,9 +25,6 @@ named (Initiate l f) = refl
 named (Name l f) = refl
 named (Report w) = refl
 named ChangeRoot = refl
-
-pub same_names : HaveSameNames words
-same_names m n = refl
 
 pub keeps : (n : State) (c : Change) (p : ℕ) → is_touched (touched_by c) p ≡ false → mark_of (after n c).ports p ≡ mark_of n.ports p
 keeps n c p h = ap (λ (x : PortState). mark_word x.mark) (kept n.ports c.port c.entry p h)

@@ -3,7 +3,6 @@ use Rattle.std.specs.Prelude.{ℕ, ◌==◌, if◌then◌else◌, List, [], ◌�
 use Rattle.ghs_graph.specs.declared.key.Key.{Key}
 use Rattle.peer_words.specs.declared.spoken.Touched.{Touched}
 use Rattle.peer_words.specs.declared.spoken.Touched.TheVariants.{NoPort, OnePort, AllPorts}
-use Rattle.peer_words.specs.declared.value.Carried.TheVariants.{Nothing, One, Two}
 use Rattle.peer_words.specs.declared.value.Said.{Said}
 use Rattle.peer_words.specs.declared.value.Saying.{Saying}
 use Rattle.peer_words.specs.declared.value.Value.TheVariants.{Best, Flag, Link, Number, Port, Word}
@@ -65,11 +64,11 @@ abbrev pub key_said : Option Key → Said
 key_said k = record { name = codes "key"; value = Link k }
 
 abbrev pub says : Message → Saying
-says (Connect l) = record { kind = codes "connect"; carried = One (level_said l ∷ []) }
-says (Initiate l f) = record { kind = codes "initiate"; carried = Two (level_said l ∷ key_said (Some f) ∷ []) }
-says (Name l f) = record { kind = codes "name"; carried = Two (level_said l ∷ key_said (Some f) ∷ []) }
-says (Report w) = record { kind = codes "report"; carried = One (key_said w ∷ []) }
-says ChangeRoot = record { kind = codes "changeroot"; carried = Nothing }
+says (Connect l) = record { kind = codes "connect"; carried = level_said l ∷ [] }
+says (Initiate l f) = record { kind = codes "initiate"; carried = level_said l ∷ key_said (Some f) ∷ [] }
+says (Name l f) = record { kind = codes "name"; carried = level_said l ∷ key_said (Some f) ∷ [] }
+says (Report w) = record { kind = codes "report"; carried = key_said w ∷ [] }
+says ChangeRoot = record { kind = codes "changeroot"; carried = [] }
 
 -- of the fragment, of the way to its root, and of the search
 abbrev pub fragment_variables : Head → List Said

@@ -98,7 +98,7 @@ fn woken_head(node: &Node) -> Head
 }
 
 /// The name of a row, as texts have it.
-pub(crate) fn row_word(row: RowName) -> Word
+pub(crate) fn row_word(row: RowName) -> Word<'static>
     ensures { result ≡ row_word row }
 {
     match row {

@@ -2,7 +2,6 @@
 ghost use Rattle.std.specs.Prelude.{◌≡◌, ◌∷◌, ◌++◌, [], codes, Some, Option, IfOk};
 ghost use Rattle.peer_words.specs.declared.value.Value.TheVariants as values;
 ghost use Rattle.boruvka.specs.Words.{fragment_variables, kind_word, mark_word, phase_variables, phase_word, search_variables, touched_of};
-ghost use Rattle.peer_words.specs.Items.{items_of};
 
 use crate::protocol::Boruvka;
 use crate::row_name::{row_of, row_word};
@@ -14,53 +13,60 @@ use boruvka_node::port_state::PortState;
 use ghs_graph::key::Key;
 use ghs_node::level::Level;
 use peer_machine::work::Work;
+use peer_words::fixed_words::FixedWords;
 use peer_words::spoken::{Spoken, Touched};
-use peer_words::value::{Carried, Said, Saying, Value, Word};
-use std::alloc::AllocError;
+use peer_words::value::{Said, Saying, Value, Word};
+use std::alloc::{AllocError, Global};
 
 impl Spoken for Boruvka {
     ghost use Rattle.boruvka.specs.Words.{words as all_words, touched_by};
-    ghost use Rattle.boruvka.specs.Kept.{keeps, named, same_names};
+    ghost use Rattle.boruvka.specs.Kept.{keeps, named};
 
     ghost words = { all_words };
 
     ghost touched = { touched_by };
 
-    fn name() -> Word {
+    fn name() -> Word<'static> {
         Word::of(b"boruvka")
     }
 
-    fn says(message: &Message) -> Saying {
+    fn says<'s>(
+        alloc: Global,
+        _setting: &'s (),
+        message: &Message,
+    ) -> Result<Saying<'s>, AllocError> {
         match message {
-            Message::Connect(level) => Saying::new(b"connect", Carried::One([level_said(*level)])),
-            Message::Initiate(level, name) => Saying::new(
-                b"initiate",
-                Carried::Two([level_said(*level), key_said(Some(*name))]),
-            ),
-            Message::Name(level, name) => Saying::new(
-                b"name",
-                Carried::Two([level_said(*level), key_said(Some(*name))]),
-            ),
-            Message::Report(key) => Saying::new(b"report", Carried::One([key_said(*key)])),
-            Message::ChangeRoot => Saying::new(b"changeroot", Carried::Nothing),
+            Message::Connect(level) => Saying::bare(alloc, b"connect").with(level_said(*level)),
+            Message::Initiate(level, name) => Saying::bare(alloc, b"initiate")
+                .with(level_said(*level))?
+                .with(key_said(Some(*name))),
+            Message::Name(level, name) => Saying::bare(alloc, b"name")
+                .with(level_said(*level))?
+                .with(key_said(Some(*name))),
+            Message::Report(key) => Saying::bare(alloc, b"report").with(key_said(*key)),
+            Message::ChangeRoot => Ok(Saying::bare(alloc, b"changeroot")),
         }
     }
 
-    fn kind_name(kind: usize) -> Word {
-        kind_word(kind)
+    fn kind_name<'s>(_setting: &'s (), kind: usize) -> Word<'s> {
+        Boruvka::fixed_kind_name(kind)
     }
 
-    fn row(node: &Node, work: &Work<Message>) -> Word {
-        row_word(row_of(node, work))
+    fn row<'s>(_setting: &'s (), node: &Node, work: &Work<Message>) -> Word<'s> {
+        Boruvka::fixed_row(node, work)
     }
 
-    fn put_variables(list: &mut Vec<Said>, node: &Node) -> Result<(), AllocError> {
+    fn put_variables<'s>(
+        list: &mut Vec<Said<'s>>,
+        _setting: &'s (),
+        node: &Node,
+    ) -> Result<(), AllocError> {
         put_fragment(list, node)?;
         put_phase(list, node)?;
         put_search(list, node)
     }
 
-    fn mark(node: &Node, port: u32) -> Word {
+    fn mark<'s>(_setting: &'s (), node: &Node, port: u32) -> Word<'s> {
         mark_word(node.port(port).mark)
     }
 
@@ -70,12 +76,20 @@ impl Spoken for Boruvka {
 
     ghost names_kinds = { named };
 
-    ghost names_variables = { same_names };
-
     ghost keeps_marks = { keeps };
 }
 
-fn kind_word(kind: usize) -> Word
+impl FixedWords for Boruvka {
+    fn fixed_kind_name(kind: usize) -> Word<'static> {
+        kind_word(kind)
+    }
+
+    fn fixed_row(node: &Node, work: &Work<Message>) -> Word<'static> {
+        row_word(row_of(node, work))
+    }
+}
+
+fn kind_word(kind: usize) -> Word<'static>
     ensures { result ≡ kind_word kind }
 {
     if kind == 0 {
@@ -92,21 +106,21 @@ fn kind_word(kind: usize) -> Word
 }
 
 /// A level that a message carries.
-fn level_said(level: Level) -> Said
+fn level_said(level: Level) -> Said<'static>
     ensures { result ≡ record { name = codes "level"; value = values.Number level } }
 {
     Said::new(b"level", Value::Number(u64::from(level.get())))
 }
 
 /// A key that it carries.
-fn key_said(key: Option<Key>) -> Said
+fn key_said(key: Option<Key>) -> Said<'static>
     ensures { result ≡ record { name = codes "key"; value = values.Link key } }
 {
     Said::new(b"key", Value::Link(key))
 }
 
 /// What a node knows of its fragment.
-fn put_fragment(list: &mut Vec<Said>, node: &Node) -> Result<(), AllocError>
+fn put_fragment<'s>(list: &mut Vec<Said<'s>>, node: &Node) -> Result<(), AllocError>
     ensures { IfOk result (λ _. list.new.items ≡ list.old.items ++ fragment_variables node.now.head) }
 {
     let head = node.head();
@@ -116,7 +130,7 @@ fn put_fragment(list: &mut Vec<Said>, node: &Node) -> Result<(), AllocError>
 }
 
 /// Its phase, and its way to the root.
-fn put_phase(list: &mut Vec<Said>, node: &Node) -> Result<(), AllocError>
+fn put_phase<'s>(list: &mut Vec<Said<'s>>, node: &Node) -> Result<(), AllocError>
     ensures { IfOk result (λ _. list.new.items ≡ list.old.items ++ phase_variables node.now.head) }
 {
     let head = node.head();
@@ -126,7 +140,7 @@ fn put_phase(list: &mut Vec<Said>, node: &Node) -> Result<(), AllocError>
 }
 
 /// The best link, the port of its Connect, and whether it has halted.
-fn put_search(list: &mut Vec<Said>, node: &Node) -> Result<(), AllocError>
+fn put_search<'s>(list: &mut Vec<Said<'s>>, node: &Node) -> Result<(), AllocError>
     ensures { IfOk result (λ _. list.new.items ≡ list.old.items ++ search_variables node.now.head) }
 {
     let head = node.head();
@@ -136,7 +150,7 @@ fn put_search(list: &mut Vec<Said>, node: &Node) -> Result<(), AllocError>
     Ok(())
 }
 
-fn phase_word(phase: Phase) -> Word
+fn phase_word(phase: Phase) -> Word<'static>
     ensures { result ≡ phase_word phase }
 {
     match phase {
@@ -146,7 +160,7 @@ fn phase_word(phase: Phase) -> Word
     }
 }
 
-fn mark_word(mark: Mark) -> Word
+fn mark_word(mark: Mark) -> Word<'static>
     ensures { result ≡ mark_word mark }
 {
     match mark {

@@ -7,3 +7,4 @@ pub mod every_run
 pub mod follows
 pub mod bound
 pub mod lemmas
+mod Examples

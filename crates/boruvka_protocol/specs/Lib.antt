@@ -2,3 +2,7 @@
 pub mod Bound
 pub mod Marks
 pub mod Laws
+pub mod Levels
+pub mod Cores
+pub mod WaysUp
+pub mod LevelLaws

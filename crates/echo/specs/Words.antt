@@ -2,7 +2,6 @@
 use Rattle.std.specs.Prelude.{ℕ, zero, suc, ◌==◌, List, [], ◌∷◌, ◌++◌, codes, if◌then◌else◌}
 use Rattle.peer_words.specs.declared.spoken.Touched.{Touched}
 use Rattle.peer_words.specs.declared.spoken.Touched.TheVariants.{NoPort, AllPorts}
-use Rattle.peer_words.specs.declared.value.Carried.TheVariants.{Nothing}
 use Rattle.peer_words.specs.declared.value.Said.{Said}
 use Rattle.peer_words.specs.declared.value.Saying.{Saying}
 use Rattle.peer_words.specs.declared.value.Value.TheVariants.{Flag, Number, Port, Word}
@@ -28,8 +27,8 @@ kind_word zero = codes "explore"
 kind_word (suc k) = codes "echo"
 
 abbrev pub says : Message → Saying
-says Explore = record { kind = codes "explore"; carried = Nothing }
-says Echo = record { kind = codes "echo"; carried = Nothing }
+says Explore = record { kind = codes "explore"; carried = [] }
+says Echo = record { kind = codes "echo"; carried = [] }
 
 -- a node sleeps, has asked and awaits answers, or awaits none
 abbrev pub phase_word : Node → List ℕ

@@ -40,7 +40,7 @@ pub fn row_of(node: &Node, work: &Work<Message>) -> RowName
 }
 
 /// The name of a row, as texts have it.
-pub(crate) fn row_word(row: RowName) -> Word
+pub(crate) fn row_word(row: RowName) -> Word<'static>
     ensures { result ≡ row_word row }
 {
     match row {

@@ -7,43 +7,52 @@ use crate::node::{Change, Message, Node};
 use crate::protocol::Echo;
 use crate::row_name::{row_of, row_word};
 use peer_machine::work::Work;
+use peer_words::fixed_words::FixedWords;
 use peer_words::spoken::{Spoken, Touched};
-use peer_words::value::{Carried, Said, Saying, Value, Word};
-use std::alloc::AllocError;
+use peer_words::value::{Said, Saying, Value, Word};
+use std::alloc::{AllocError, Global};
 
 impl Spoken for Echo {
     ghost use Rattle.echo.specs.Words.{words as all_words, touched_by};
-    ghost use Rattle.echo.specs.Kept.{keeps, named, same_names};
+    ghost use Rattle.echo.specs.Kept.{keeps, named};
 
     ghost words = { all_words };
 
     ghost touched = { touched_by };
 
-    fn name() -> Word {
+    fn name() -> Word<'static> {
         Word::of(b"echo")
     }
 
-    fn says(message: &Message) -> Saying {
+    fn says<'s>(
+        alloc: Global,
+        _setting: &'s (),
+        message: &Message,
+    ) -> Result<Saying<'s>, AllocError> {
         match message {
-            Message::Explore => Saying::new(b"explore", Carried::Nothing),
-            Message::Echo => Saying::new(b"echo", Carried::Nothing),
+            Message::Explore => Ok(Saying::bare(alloc, b"explore")),
+            Message::Echo => Ok(Saying::bare(alloc, b"echo")),
         }
     }
 
-    fn kind_name(kind: usize) -> Word {
-        kind_word(kind)
+    fn kind_name<'s>(_setting: &'s (), kind: usize) -> Word<'s> {
+        Echo::fixed_kind_name(kind)
     }
 
-    fn row(node: &Node, work: &Work<Message>) -> Word {
-        row_word(row_of(node, work))
+    fn row<'s>(_setting: &'s (), node: &Node, work: &Work<Message>) -> Word<'s> {
+        Echo::fixed_row(node, work)
     }
 
-    fn put_variables(list: &mut Vec<Said>, node: &Node) -> Result<(), AllocError> {
+    fn put_variables<'s>(
+        list: &mut Vec<Said<'s>>,
+        _setting: &'s (),
+        node: &Node,
+    ) -> Result<(), AllocError> {
         put_wave(list, node)?;
         put_state(list, node)
     }
 
-    fn mark(node: &Node, port: u32) -> Word {
+    fn mark<'s>(_setting: &'s (), node: &Node, port: u32) -> Word<'s> {
         mark_of(node, port)
     }
 
@@ -56,12 +65,20 @@ impl Spoken for Echo {
 
     ghost names_kinds = { named };
 
-    ghost names_variables = { same_names };
-
     ghost keeps_marks = { keeps };
 }
 
-fn kind_word(kind: usize) -> Word
+impl FixedWords for Echo {
+    fn fixed_kind_name(kind: usize) -> Word<'static> {
+        kind_word(kind)
+    }
+
+    fn fixed_row(node: &Node, work: &Work<Message>) -> Word<'static> {
+        row_word(row_of(node, work))
+    }
+}
+
+fn kind_word(kind: usize) -> Word<'static>
     ensures { result ≡ kind_word kind }
 {
     match kind {
@@ -71,7 +88,7 @@ fn kind_word(kind: usize) -> Word
 }
 
 /// Whether a node takes part, and who asked it.
-fn put_wave(list: &mut Vec<Said>, node: &Node) -> Result<(), AllocError>
+fn put_wave<'s>(list: &mut Vec<Said<'s>>, node: &Node) -> Result<(), AllocError>
     ensures { IfOk result (λ _. list.new.items ≡ list.old.items ++ wave_variables node.now) }
 {
     list.push(Said::new(b"phase", Value::Word(phase_of(node))))?;
@@ -80,7 +97,7 @@ fn put_wave(list: &mut Vec<Said>, node: &Node) -> Result<(), AllocError>
 }
 
 /// Whether a node sleeps, awaits answers, or awaits none.
-fn phase_of(node: &Node) -> Word
+fn phase_of(node: &Node) -> Word<'static>
     ensures { result ≡ phase_word node.now }
 {
     if !node.head.awake {
@@ -93,7 +110,7 @@ fn phase_of(node: &Node) -> Word
 }
 
 /// How many answers it awaits, and whether it has halted.
-fn put_state(list: &mut Vec<Said>, node: &Node) -> Result<(), AllocError>
+fn put_state<'s>(list: &mut Vec<Said<'s>>, node: &Node) -> Result<(), AllocError>
     ensures { IfOk result (λ _. list.new.items ≡ list.old.items ++ state_variables node.now) }
 {
     list.push(Said::new(b"awaits", Value::Number(u64::from(node.head.awaits))))?;
@@ -109,7 +126,7 @@ fn has_halted(node: &Node) -> bool
 }
 
 /// What a node knows of one of its ports.
-fn mark_of(node: &Node, port: u32) -> Word
+fn mark_of(node: &Node, port: u32) -> Word<'static>
     ensures { result ≡ mark_of node.now port }
 {
     if !node.head.awake {

@@ -11,15 +11,15 @@ impl Viewed for Echo {
 
     ghost looks = { all_looks };
 
-    fn title() -> &'static [u8] {
+    fn title<'s>(_setting: &'s ()) -> &'s [u8] {
         TITLE
     }
 
-    fn kind_look(kind: usize) -> &'static [u8] {
+    fn kind_look<'s>(_setting: &'s (), kind: usize) -> &'s [u8] {
         kind_look(kind)
     }
 
-    fn look() -> &'static [u8] {
+    fn look<'s>(_setting: &'s ()) -> &'s [u8] {
         LOOK
     }
 }

@@ -19,11 +19,11 @@ use Rattle.own_judge.specs.Report.{IsJudgement}
 use Rattle.own_judge.specs.Verdict.{line, verdict}
 use Rattle.own_judge.specs.declared.end.End.{End}
 use Rattle.own_judge.specs.declared.end.End.TheVariants as end
-use Rattle.own_orders.specs.Outcome.{IsOutcome, ManyBy}
-use Rattle.own_orders.specs.Rows.{rows_text}
-use Rattle.own_orders.specs.declared.outcome.Outcome.{Outcome}
-use Rattle.own_orders.specs.declared.outcome.Outcome.TheVariants as outcome
-use Rattle.own_orders.specs.declared.rows.Rows.{Rows}
+use Rattle.own_judge.specs.Outcome.{IsOutcome, ManyBy}
+use Rattle.own_judge.specs.Rows.{rows_text}
+use Rattle.own_judge.specs.declared.outcome.Outcome.{Outcome}
+use Rattle.own_judge.specs.declared.outcome.Outcome.TheVariants as outcome
+use Rattle.own_judge.specs.declared.rows.Rows.{Rows}
 use Rattle.peer_machine.specs.Explorable.{IsSmall}
 use Rattle.peer_texts.specs.Text.{trace_text}
 use Rattle.peer_network.specs.Network.{network_of}

@@ -6,9 +6,9 @@ use Rattle.ghs_commands.specs.declared.job.RunOptions.{RunOptions}
 use Rattle.ghs_commands.specs.declared.job.Show.{Show}
 use Rattle.ghs_commands.specs.declared.job.Show.TheVariants.{Summary, Events, Time}
 use Rattle.ghs_commands.specs.declared.job.StepsOptions.{StepsOptions}
-use Rattle.ghs_cores.specs.Components.{HasEndedIn}
-use Rattle.ghs_cores.specs.Text.{HaveLines}
-use Rattle.ghs_cores.specs.declared.component.Component.{Component}
+use Rattle.ghs_report.specs.Components.{HasEndedIn}
+use Rattle.ghs_report.specs.CoreLines.{HaveLines}
+use Rattle.ghs_report.specs.declared.component.Component.{Component}
 use Rattle.ghs_graph.specs.Graph.{Shape}
 use Rattle.ghs_picking.specs.Laps.{AreLaps}
 use Rattle.ghs_picking.specs.Picking.{AreRounds, HasTurnsFor, HasTurnsInTurn, IsPickedBy}

@@ -8,7 +8,7 @@ use Rattle.ghs_graph.specs.declared.key.Key.{Key}
 use Rattle.ghs_graph.specs.Graph.{Shape}
 use Rattle.ghs_graph.specs.Key.{key_of}
 use Rattle.ghs_graph.specs.Links.{IsTree}
-use Rattle.ghs_cores.specs.Components.{IsOfGraph}
+use Rattle.ghs_report.specs.Components.{IsOfGraph}
 use Rattle.ghs_make.specs.Network.{IsNetwork, IsNetworkOf, IsRefusal}
 use Rattle.ghs_make.specs.Text.{text_of}
 use Rattle.ghs_make.specs.declared.fault.MakeFault.TheVariants as make

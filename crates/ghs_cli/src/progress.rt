@@ -4,13 +4,13 @@ ghost use Rattle.ghs_pool.specs.Follows.{Follows};
 ghost use Rattle.ghs_pool.specs.Shop.{IsTold};
 ghost use Rattle.std.specs.Prelude.{◌≡◌, ◌≤◌, []};
 
-use ghs_board::board::{Board, Publisher, Reader};
-use ghs_board::progress::Progress;
 use ghs_pool::end::PoolFault;
 use ghs_pool::gate::{Gate, Tally};
 use ghs_pool::shop::pair_of;
 use ghs_pool::workers::{run_watched, run_workers};
 use ghs_sched::run::RunEnd;
+use ghs_shared::board::{Board, Publisher, Reader};
+use ghs_shared::progress::Progress;
 use ghs_world::world::World;
 use peer_explore::watch::Watch;
 use std::alloc::Global;

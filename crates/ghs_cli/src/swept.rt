@@ -23,7 +23,7 @@ use std::alloc::{AllocError, Global};
 use std::thread::Threads;
 
 /// The names of the columns of kinds of messages: those of GHS, and behind them those that only others have.
-fn kind_columns() -> [Word; 10]
+fn kind_columns() -> [Word<'static>; 10]
     ensures { result ≡ kind_columns }
 {
     [
@@ -127,7 +127,11 @@ pub(crate) fn part_columns(
 }
 
 /// The names of these kinds.
-fn part_names(alloc: Global, several: bool, protocol: Protocol) -> Result<Vec<Word>, AllocError>
+fn part_names(
+    alloc: Global,
+    several: bool,
+    protocol: Protocol,
+) -> Result<Vec<Word<'static>>, AllocError>
     ensures { IfOk result (λ names. names.items ≡ part_names several protocol) }
 {
     if several {

@@ -1,8 +1,8 @@
 //! Boards on one thread, and with readers on threads of their own.
 ghost use Rattle.std.specs.Prelude.{◌≡◌, false};
 
-use ghs_board::board::{Board, Publisher, Reader};
-use ghs_board::progress::Progress;
+use ghs_shared::board::{Board, Publisher, Reader};
+use ghs_shared::progress::Progress;
 use std::alloc::Global;
 use std::process::Abort;
 use std::test::*;

@@ -1,7 +1,7 @@
 //! Queues on one thread, and between two threads that put and two that take.
 ghost use Rattle.std.specs.Prelude.{◌≡◌};
 
-use ghs_queue::queue::{CloseFault, Full, ReadyPass, ReadyQueue};
+use ghs_shared::queue::{CloseFault, Full, ReadyPass, ReadyQueue};
 use std::alloc::{AllocError, Global};
 use std::process::Abort;
 use std::sync::Wait;

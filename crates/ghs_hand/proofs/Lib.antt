@@ -1,6 +1,6 @@
--- Serves the proofs: nothing here has to be believed. lemmas is what proofs above this crate may use.
+-- Serves the proofs: nothing here has to be believed.
 mod Ending
-pub mod lemmas
 mod Nowhere
 mod Offered
+mod Timing
 mod Waiting

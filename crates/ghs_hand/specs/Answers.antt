@@ -1,14 +1,14 @@
 -- The texts that answer a page, and how they are handed over.
-use Rattle.std.specs.Prelude.{◌≡◌, ◌⊎◌, ℕ, ◌<◌, ◌≤◌, Bool, List, ◌++◌, drop, length}
+use Rattle.std.specs.Prelude.{◌≡◌, ◌⊎◌, ℕ, Bool, List}
 use Rattle.peer_network.specs.declared.event.Event.{Event}
 use Rattle.peer_texts.specs.Text.{trace_text}
 use Rattle.peer_network.specs.declared.wake_set.WakeSet.{WakeSet}
 use Rattle.ghs_world.specs.WorldState.{WorldState}
-use Rattle.ghs_hand.specs.declared.fault.HandFault.{HandFault}
+use Rattle.peer_hand.specs.Words.{fault_json}
+use Rattle.peer_hand.specs.declared.fault.HandFault.{HandFault}
 use Rattle.ghs_hand.specs.Led.{IsLed, LeadsNowhere}
 use Rattle.ghs_hand.specs.Seen.{IsSeen}
 use Rattle.ghs_hand.specs.Going.{HasGoneOn, StopsFor}
-use Rattle.ghs_hand.specs.Words.{fault_json}
 
 -- the text tells of the world to which two texts lead
 pub record IsToldOf (wake : WakeSet) (graph trace text : List ℕ) : Type 0 where
@@ -41,11 +41,3 @@ HasNoRun wake graph trace patient seed fault =
 abbrev pub IsRunAnswer : WakeSet → List ℕ → List ℕ → Bool → ℕ → List ℕ → Type 0
 IsRunAnswer wake graph trace patient seed text =
     IsRunText wake graph trace patient seed text ⊎ ((fault : HandFault) × HasNoRun wake graph trace patient seed fault × (text ≡ fault_json fault))
-
--- a text of the kind has n bytes; where it fits it is the front of what there is room for, and else nothing has changed
-pub record IsHandedOver (kind : List ℕ → Type 0) (n : ℕ) (old new : List ℕ) : Type 0 where
-  pub text : List ℕ
-  pub is : kind text
-  pub count : n ≡ length text
-  pub fits : length text ≤ length old → new ≡ text ++ drop (length text) old
-  pub large : length old < length text → new ≡ old

@@ -7,8 +7,8 @@ use Rattle.ghs_protocol.specs.Run.{net_after}
 use Rattle.ghs_sched.specs.Picks.{IsPicked}
 use Rattle.peer_schedule.specs.Schedule.{seeded}
 use Rattle.ghs_world.specs.WorldState.{WorldState, wakers}
-use Rattle.ghs_hand.specs.declared.fault.HandFault.{HandFault}
-use Rattle.ghs_hand.specs.declared.fault.HandFault.TheVariants.{TurnLimit, Memory}
+use Rattle.peer_hand.specs.declared.fault.HandFault.{HandFault}
+use Rattle.peer_hand.specs.declared.fault.HandFault.TheVariants.{TurnLimit, Memory}
 
 -- from a world on a seed's schedule has picked the events by which its trace has grown to these: among all that may
 -- happen or, patiently (true), among those that move the run on

@@ -1,29 +1,15 @@
 -- The world to which two texts lead: a graph's, and that of the events which a hand has chosen.
-use Rattle.std.specs.Prelude.{◌≡◌, ℕ, List, Ok, Err, map}
+use Rattle.std.specs.Prelude.{ℕ, List, Err}
 use Rattle.ghs_gr.specs.Judgement.{TextIs}
-use Rattle.ghs_gr.specs.RawGraph.{RawShape}
-use Rattle.ghs_gr.specs.declared.fault.GrFault.{GrFault}
-use Rattle.ghs_gr.specs.declared.fault.GrFault.TheVariants as gr
 use Rattle.ghs_graph.specs.Graph.{Shape}
-use Rattle.ghs_graph.specs.Key.{key_of}
 use Rattle.peer_network.specs.declared.event.Event.{Event}
 use Rattle.peer_texts.specs.Reading.{HasEvents, HasFault}
 use Rattle.ghs_sched.specs.Replays.{HasReplayed, IsFirstUnlawful}
-use Rattle.peer_schedule.specs.declared.fault.ReplayFault.{ReplayFault}
-use Rattle.peer_schedule.specs.declared.fault.ReplayFault.TheVariants as replays
-use Rattle.peer_texts.specs.declared.fault.TraceFault.{TraceFault}
-use Rattle.peer_texts.specs.declared.fault.TraceFault.TheVariants as trace
 use Rattle.peer_network.specs.declared.wake_set.WakeSet.{WakeSet}
 use Rattle.ghs_world.specs.WorldState.{WorldState}
-use Rattle.ghs_hand.specs.declared.fault.HandFault.{HandFault}
-use Rattle.ghs_hand.specs.declared.fault.HandFault.TheVariants.{Graph, Trace, NotLawful, TurnLimit, Memory}
-
--- the text is one of this graph
-pub record IsTextOf (text : List ℕ) (g : Shape) : Type 0 where
-  pub raw : RawShape
-  pub is : TextIs text (Ok raw)
-  pub nodes : g.nodes ≡ raw.nodes
-  pub keys : g.keys ≡ map key_of raw.keys
+use Rattle.peer_hand.specs.Texts.{IsTextOf}
+use Rattle.peer_hand.specs.declared.fault.HandFault.{HandFault}
+use Rattle.peer_hand.specs.declared.fault.HandFault.TheVariants.{Graph, Trace, Other, NotLawful, TurnLimit, Memory}
 
 -- the one text is of the world's graph, the other of its events; nothing is out, and turns are left as far as they may go
 pub record IsLed (wake : WakeSet) (graph trace : List ℕ) (w : WorldState) : Type 0 where
@@ -31,12 +17,7 @@ pub record IsLed (wake : WakeSet) (graph trace : List ℕ) (w : WorldState) : Ty
   pub is_trace : HasEvents trace w.net.trace
   pub replayed : HasReplayed w.net.graph wake w.net.trace w
 
--- why a text gives no graph, and no events, memory aside
-abbrev pub HasNoGraph : List ℕ → HandFault → Type 0
-HasNoGraph text (Graph fault) = TextIs text (Err fault)
-HasNoGraph text Memory = Unit {0}
-HasNoGraph text _ = ⊥
-
+-- why a text gives no events, memory aside
 abbrev pub HasNoEvents : List ℕ → HandFault → Type 0
 HasNoEvents text (Trace fault) = HasFault text fault
 HasNoEvents text Memory = Unit {0}
@@ -49,19 +30,6 @@ LeadsNowhere wake graph trace (Graph fault) = TextIs graph (Err fault)
 LeadsNowhere wake graph trace (Trace fault) = ((g : Shape) × IsTextOf graph g) × HasFault trace fault
 LeadsNowhere wake graph trace (NotLawful k) =
     (g : Shape) × (es : List Event) × IsTextOf graph g × HasEvents trace es × IsFirstUnlawful g wake es k
+LeadsNowhere wake graph trace (Other other) = ⊥
 LeadsNowhere wake graph trace TurnLimit = ⊥
 LeadsNowhere wake graph trace Memory = Unit {0}
-
--- a fault of a graph's text, of a trace's, and of events, as a fault here
-abbrev pub of_graph : GrFault → HandFault
-of_graph gr.Memory = Memory
-of_graph fault = Graph fault
-
-abbrev pub of_trace : TraceFault → HandFault
-of_trace trace.Memory = Memory
-of_trace fault = Trace fault
-
-abbrev pub of_replay : ReplayFault → HandFault
-of_replay (replays.NotLawful k) = NotLawful k
-of_replay (replays.Unforeseen k) = Memory
-of_replay replays.Memory = Memory

@@ -2,6 +2,6 @@
 pub mod Led
 pub mod Seen
 pub mod Going
-pub mod Words
 pub mod Answers
+pub mod Timed
 pub mod Laws

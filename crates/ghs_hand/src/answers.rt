@@ -1,22 +1,18 @@
 //! The texts that answer a page, handed over in the room that it gives.
-ghost use Rattle.ghs_hand.specs.Answers.{HasNoRun, IsHandedOver, IsRunAnswer, IsRunText, IsSeenAnswer, IsTextOn, IsToldOf, StopsShort};
+ghost use Rattle.ghs_hand.specs.Answers.{HasNoRun, IsRunAnswer, IsRunText, IsSeenAnswer, IsTextOn, IsToldOf, StopsShort};
 ghost use Rattle.ghs_hand.specs.Led.{LeadsNowhere};
-ghost use Rattle.ghs_hand.specs.Words.{fault_json};
-ghost use Rattle.ghs_hand.specs.declared.fault.HandFault.TheVariants.{Memory};
-ghost use Rattle.std.specs.Prelude.{◌≡◌, ◌⊎◌, IfErr, IfOk, MatchResult, length};
+ghost use Rattle.peer_hand.specs.Handing.{IsHandedOver};
+ghost use Rattle.std.specs.Prelude.{◌≡◌, IfErr, IfOk, length};
 
-use crate::fault::HandFault;
 use crate::going::go_on;
 use crate::led::led;
 use crate::seen::seen;
-use crate::words::fault_line;
 use ghs_world::world::World;
+use peer_hand::fault::HandFault;
+use peer_hand::handing::hand_over;
 use peer_network::wake_set::WakeSet;
 use peer_texts::trace::write_trace;
 use std::alloc::Global;
-
-/// The line of the fault that can't be told of for lack of memory.
-const NO_MEMORY: &[u8] = b"{\"fault\":\"memory\",\"words\":\"out of memory\"}\n";
 
 /// What a page is told of the world to which a graph's text and a trace's text lead, or the fault for which they lead to
 /// none. The answer is how many bytes that has; where they fit into `out` they are its front, and else it is as it was.
@@ -90,28 +86,4 @@ fn gone_on(alloc: Global, mut world: World, patient: bool, seed: u64) -> Result<
         Ok(()) => Ok(write_trace(alloc, world.trace())?),
         Err(fault) => Err(fault),
     }
-}
-
-/// Hands a text over, or the line of a fault. The answer is how many bytes that has; where they fit into `out` they are its
-/// front, and else it is as it was.
-pub fn hand_over(alloc: Global, answer: Result<Vec<u8>, HandFault>, out: &mut [u8]) -> usize
-    ensures { IsHandedOver (λ t. MatchResult answer (λ text. t ≡ text.items) (λ fault. t ≡ fault_json fault) ⊎ (t ≡ fault_json Memory)) result out.old out.new }
-{
-    match answer {
-        Ok(text) => give(&text, out),
-        Err(fault) => match fault_line(alloc, fault) {
-            Ok(text) => give(&text, out),
-            Err(_) => give(NO_MEMORY, out),
-        },
-    }
-}
-
-/// Puts a text to the front of the room, where it fits. Answers how many bytes it has.
-fn give(text: &[u8], out: &mut [u8]) -> usize
-    ensures { IsHandedOver (λ t. t ≡ text.now) result out.old out.new }
-{
-    if text.len() <= out.len() {
-        out[..text.len()].copy_from_slice(text);
-    }
-    text.len()
 }

@@ -2,11 +2,11 @@
 ghost use Rattle.ghs_hand.specs.Going.{HasGoneOn, StopsFor};
 ghost use Rattle.std.specs.Prelude.{◌≡◌, IfErr, OnOk, false, length, true};
 
-use crate::fault::HandFault;
 use ghs_patient::run::run_patient;
 use ghs_sched::fault::RunFault;
 use ghs_sched::run::{RunEnd, run_seeded};
 use ghs_world::world::World;
+use peer_hand::fault::HandFault;
 use peer_schedule::schedule::Schedule;
 use std::alloc::Global;
 

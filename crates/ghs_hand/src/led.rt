@@ -1,14 +1,13 @@
 //! The world to which two texts lead.
-ghost use Rattle.ghs_hand.specs.Led.{HasNoEvents, HasNoGraph, IsLed, IsTextOf, LeadsNowhere};
+ghost use Rattle.ghs_hand.specs.Led.{HasNoEvents, IsLed, LeadsNowhere};
 ghost use Rattle.peer_texts.specs.Reading.{HasEvents};
 ghost use Rattle.peer_texts.specs.declared.trace.TheConstants.{EVENT_LIMIT};
 ghost use Rattle.std.specs.Prelude.{◌≡◌, ◌≤◌, IfErr, IfOk, length};
 
-use crate::fault::HandFault;
-use ghs_gr::judgement::judge;
-use ghs_graph::graph::Graph;
 use ghs_sched::replay::replay;
 use ghs_world::world::World;
+use peer_hand::fault::HandFault;
+use peer_hand::texts::graph_of;
 use peer_network::event::Event;
 use peer_network::wake_set::WakeSet;
 use peer_texts::trace::{EVENT_LIMIT, read_trace};
@@ -26,18 +25,6 @@ pub fn led(alloc: Global, wake: WakeSet, graph: &[u8], trace: &[u8]) -> Result<W
     match replay(alloc, graph, wake, &events) {
         Ok(world) => Ok(world),
         Err((_, fault)) => Err(fault.into()),
-    }
-}
-
-/// The graph of a text. Refusals: the text's fault; out of memory.
-pub fn graph_of(alloc: Global, text: &[u8]) -> Result<Graph, HandFault>
-    ensures graph { IfOk result (λ g. IsTextOf text.now g) }
-    ensures fault { IfErr result (λ fault. HasNoGraph text.now fault) }
-{
-    let raw = judge(alloc, text)?;
-    match Graph::build(alloc, raw) {
-        Ok(graph) => Ok(graph),
-        Err(_) => Err(HandFault::Memory),
     }
 }
 

@@ -6,13 +6,12 @@
 //! where the trace with it added is a run (`law_offered`).
 //!
 //! An answer that doesn't fit into the buffer changes nothing, and says how long it is (`IsHandedOver`). No call has a
-//! precondition. Next: `ghs_web`, which exports the two.
+//! precondition. What speaks of no protocol stands in `peer_hand`. Next: `ghs_web`, which exports the two.
 #![tactic(auto)]
 
 pub mod answers;
-pub mod fault;
 pub mod going;
 pub mod laws;
 pub mod led;
 pub mod seen;
-pub mod words;
+pub mod timed;

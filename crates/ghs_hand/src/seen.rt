@@ -1,16 +1,16 @@
 //! What a page is told of a world.
 ghost use Rattle.std.specs.Prelude.{◌≡◌, ◌++◌, IfOk, true};
 ghost use Rattle.std.specs.List.{All, flat_map};
-ghost use Rattle.ghs_hand.specs.Seen.{IsSeen, IsSoFar, choice_json, ended_json, may_json, place_json, waits_member};
+ghost use Rattle.ghs_hand.specs.Seen.{IsSeen, IsSoFar, may_json};
 ghost use Rattle.ghs_patient.specs.Patience.{puts_back};
 ghost use Rattle.ghs_world.specs.Ready.{is_ready};
 ghost use Rattle.ghs_world.specs.WorldState.{home};
 
 use ghs_core::event::Event;
 use ghs_graph::bounds::bound;
-use ghs_lines::numbers::put_number;
 use ghs_view::data::data_of;
 use ghs_world::world::World;
+use peer_hand::choices::{put_choice, put_ended};
 use std::alloc::{AllocError, Global};
 
 /// The data of a world's run so far: the network, its links, a line for each step, the counts; then a line for each event
@@ -60,51 +60,4 @@ fn waits(world: &World, event: Event) -> bool
         Event::Wake(_) => false,
         Event::Take(v, port) => world.net().waits_at(v, port),
     }
-}
-
-/// The line of an event that may come next.
-#[tactic(auto, unfolding(crate::specs::Seen::choice_json))]
-fn put_choice(text: &mut Vec<u8>, event: Event, waits: bool) -> Result<(), AllocError>
-    ensures { IfOk result (λ _. text.new.items ≡ text.old.items ++ choice_json event waits) }
-{
-    text.extend_from_slice(b"{\"may\":")?;
-    put_place(text, event)?;
-    put_waits(text, waits)?;
-    text.extend_from_slice(b"}\n")
-}
-
-/// Says of an event where it would only put its message back.
-fn put_waits(text: &mut Vec<u8>, waits: bool) -> Result<(), AllocError>
-    ensures { IfOk result (λ _. text.new.items ≡ text.old.items ++ waits_member waits) }
-{
-    if waits {
-        text.extend_from_slice(b",\"waits\":true")?;
-    }
-    Ok(())
-}
-
-/// The node of an event, and for a Take the port.
-fn put_place(text: &mut Vec<u8>, event: Event) -> Result<(), AllocError>
-    ensures { IfOk result (λ _. text.new.items ≡ text.old.items ++ place_json event) }
-{
-    text.extend_from_slice(b"[")?;
-    match event {
-        Event::Wake(v) => put_number(text, u128::from(v))?,
-        Event::Take(v, port) => {
-            put_number(text, u128::from(v))?;
-            text.extend_from_slice(b",")?;
-            put_number(text, u128::from(port))?;
-        }
-    }
-    text.extend_from_slice(b"]")
-}
-
-/// A line where the run has ended.
-fn put_ended(text: &mut Vec<u8>, ended: bool) -> Result<(), AllocError>
-    ensures { IfOk result (λ _. text.new.items ≡ text.old.items ++ ended_json ended) }
-{
-    if ended {
-        text.extend_from_slice(b"{\"ended\":true}\n")?;
-    }
-    Ok(())
 }

@@ -5,7 +5,7 @@
 //! `set` and `greatest` take O(log n) steps is not proved. More than half of `usize::MAX` numbers are refused as out of
 //! memory.
 //!
-//! Next: `ghs_lifo`, which finds by it the message that was sent last.
+//! Next: `ghs_orders`, which finds by it the message that was sent last.
 #![tactic(auto)]
 
 pub mod maxima;

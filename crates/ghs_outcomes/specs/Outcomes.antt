@@ -21,9 +21,9 @@ use Rattle.boruvka_node.specs.Boruvka.{boruvka}
 use Rattle.boruvka_protocol.specs.Bound.{bound_of}
 use Rattle.echo.specs.Echo as wave
 use Rattle.echo.specs.Words as wave_words
-use Rattle.ghs_hand.specs.Led.{HasNoGraph, IsTextOf}
-use Rattle.ghs_hand.specs.Words.{fault_json}
-use Rattle.ghs_hand.specs.declared.fault.HandFault.{HandFault}
+use Rattle.peer_hand.specs.Texts.{HasNoGraph, IsTextOf}
+use Rattle.peer_hand.specs.Words.{fault_json}
+use Rattle.peer_hand.specs.declared.fault.HandFault.{HandFault}
 use Rattle.ghs_outcomes.specs.Limit.{at_least_1}
 use Rattle.ghs_outcomes.specs.Words.{no_numbers_json, too_large_json, too_many_json}
 

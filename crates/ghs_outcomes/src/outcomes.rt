@@ -1,9 +1,9 @@
 //! The text of all runs of a graph, handed over in the room that a page gives.
 ghost use Rattle.ghs_graph.specs.Graph.{Shape};
-ghost use Rattle.ghs_hand.specs.Answers.{IsHandedOver};
-ghost use Rattle.ghs_hand.specs.Led.{HasNoGraph, IsTextOf};
 ghost use Rattle.ghs_outcomes.specs.Outcomes.{IsOutcomesAnswer, IsTold, explores_by};
 ghost use Rattle.ghs_outcomes.specs.Limit.{at_least_1};
+ghost use Rattle.peer_hand.specs.Handing.{IsHandedOver};
+ghost use Rattle.peer_hand.specs.Texts.{HasNoGraph, IsTextOf};
 ghost use Rattle.std.specs.Prelude.{◌≡◌, ◌≤◌, IfErr, IfOk};
 
 use crate::any::told_by;
@@ -11,9 +11,9 @@ use crate::ghs::told_by_ghs;
 use boruvka::protocol::Boruvka;
 use echo::protocol::Echo;
 use ghs_graph::graph::Graph;
-use ghs_hand::answers::hand_over;
-use ghs_hand::fault::HandFault;
-use ghs_hand::led::graph_of;
+use peer_hand::fault::HandFault;
+use peer_hand::handing::hand_over;
+use peer_hand::texts::graph_of;
 use peer_network::wake_set::WakeSet;
 use peer_trace::protocol::Protocol;
 use std::alloc::{AllocError, Global};

@@ -5,7 +5,7 @@
 //! memory (`ends`, `fault`).
 //!
 //! `Choices` keeps which events move the run on, at two bits an event. How long that takes is counted by hand
-//! (docs/ARCHITECTURE.md, "Schedules"), and not proved. Next: `ghs_rounds` and `ghs_lifo`, whose picks are patient ones
+//! (docs/ARCHITECTURE.md, "Schedules"), and not proved. Next: `ghs_rounds` and `ghs_orders`, whose picks are patient ones
 //! too.
 #![tactic(auto)]
 

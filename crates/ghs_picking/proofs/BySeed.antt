@@ -23,14 +23,14 @@ use Rattle.ghs_patient.specs.Runs.{HasTurns, IsPatientlyPicked, IsShort}
 use Rattle.ghs_rounds.specs.Laws.{AwakeRoundsAreFew, PicksAreByRounds, RoundsAreChains, RoundsAreFew, RoundsAreFewer, RunsByRoundsAreShort, RunsByRoundsEnd}
 use Rattle.ghs_rounds.specs.Runs as by_rounds
 use Rattle.ghs_rounds.specs.Runs.{IsPickedByRounds}
-use Rattle.ghs_waits.specs.Runs as waits
-use Rattle.ghs_waits.specs.Runs.{IsPickedWaiting}
-use Rattle.ghs_lifo.specs.Runs as lifo
-use Rattle.ghs_lifo.specs.Runs.{IsPickedLast}
-use Rattle.ghs_round_robin.specs.Picks as in_turn
-use Rattle.ghs_round_robin.specs.Laps.{laps_in}
-use Rattle.ghs_round_robin.specs.Picks.{IsPickedInTurn, most_events}
-use Rattle.ghs_round_robin.specs.Runs as round_robin
+use Rattle.ghs_orders.specs.WaitsRuns as waits
+use Rattle.ghs_orders.specs.WaitsRuns.{IsPickedWaiting}
+use Rattle.ghs_orders.specs.LifoRuns as lifo
+use Rattle.ghs_orders.specs.LifoRuns.{IsPickedLast}
+use Rattle.ghs_orders.specs.Picks as in_turn
+use Rattle.ghs_orders.specs.Laps.{laps_in}
+use Rattle.ghs_orders.specs.Picks.{IsPickedInTurn, most_events}
+use Rattle.ghs_orders.specs.RoundRobinRuns as round_robin
 use Rattle.ghs_picking.proofs.Rounds.{rounds_within}
 use Rattle.ghs_picking.specs.Picking.{HasTurnsFor, HasTurnsInTurn, IsByRounds, IsInRounds, IsInTurn, IsLast, IsPatient, IsSeeded, IsWaiting, StopsFor}
 

@@ -9,7 +9,7 @@ use Rattle.ghs_sched.specs.declared.fault.RunFault.{RunFault}
 use Rattle.ghs_sched.specs.declared.fault.RunFault.TheVariants.{TurnLimit, Memory}
 use Rattle.ghs_sched.specs.declared.run.RunEnd.{RunEnd}
 use Rattle.peer_network.specs.declared.wake_set.WakeSet.{WakeSet}
-use Rattle.ghs_chain.specs.Chains.{longest_chain}
+use Rattle.ghs_following.specs.Chains.{longest_chain}
 use Rattle.ghs_picking.specs.Picking.{AreRounds}
 use Rattle.ghs_choices.specs.declared.schedule_kind.ScheduleKind.TheVariants.{Rounds}
 use Rattle.ghs_picking.proofs.BySeed.{has_ended}

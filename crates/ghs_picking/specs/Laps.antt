@@ -4,7 +4,7 @@ use Rattle.ghs_graph.specs.Bound.{IsBound}
 use Rattle.ghs_graph.specs.Graph.{Shape}
 use Rattle.peer_network.specs.declared.event.Event.{Event}
 use Rattle.peer_network.specs.Network.{network_of}
-use Rattle.ghs_round_robin.specs.Laps.{laps_in}
+use Rattle.ghs_orders.specs.Laps.{laps_in}
 use Rattle.ghs_choices.specs.declared.schedule_kind.ScheduleKind.{ScheduleKind}
 use Rattle.ghs_choices.specs.declared.schedule_kind.ScheduleKind.TheVariants.{Seeded, Patient, Rounds, Waits, Lifo, RoundRobin}
 use Rattle.ghs_picking.specs.declared.laps.LapCount.{LapCount}

@@ -3,7 +3,7 @@ use Rattle.std.specs.Prelude.{List}
 use Rattle.ghs_graph.specs.Graph.{Shape}
 use Rattle.peer_network.specs.declared.event.Event.{Event}
 use Rattle.peer_network.specs.Network.{network_of}
-use Rattle.ghs_chain.specs.Chains.{longest_chain}
+use Rattle.ghs_following.specs.Chains.{longest_chain}
 use Rattle.ghs_bits.specs.Bits.{bits_sent, longest_sent}
 use Rattle.ghs_picking.specs.declared.lengths.RunLengths.{RunLengths}
 

@@ -14,13 +14,13 @@ use Rattle.ghs_sched.specs.declared.fault.RunFault.TheVariants.{TurnLimit, Stall
 use Rattle.peer_network.specs.declared.wake_set.WakeSet.{WakeSet}
 use Rattle.peer_network.specs.Wakes.{may_wake}
 use Rattle.ghs_world.specs.WorldState.{WorldState}
-use Rattle.ghs_chain.specs.Chains.{longest_chain}
+use Rattle.ghs_following.specs.Chains.{longest_chain}
 use Rattle.ghs_patient.specs.Runs.{IsPatientlyPicked}
 use Rattle.ghs_rounds.specs.Runs.{IsPickedByRounds}
-use Rattle.ghs_waits.specs.Runs.{IsPickedWaiting}
-use Rattle.ghs_lifo.specs.Runs.{IsPickedLast}
-use Rattle.ghs_round_robin.specs.Laps.{laps_in}
-use Rattle.ghs_round_robin.specs.Picks.{IsPickedInTurn, most_events}
+use Rattle.ghs_orders.specs.WaitsRuns.{IsPickedWaiting}
+use Rattle.ghs_orders.specs.LifoRuns.{IsPickedLast}
+use Rattle.ghs_orders.specs.Laps.{laps_in}
+use Rattle.ghs_orders.specs.Picks.{IsPickedInTurn, most_events}
 use Rattle.ghs_picking.specs.RoundBound.{IsRoundBound}
 use Rattle.ghs_choices.specs.declared.schedule_kind.ScheduleKind.{ScheduleKind}
 use Rattle.ghs_choices.specs.declared.schedule_kind.ScheduleKind.TheVariants.{Seeded, Patient, Rounds, Waits, Lifo, RoundRobin}

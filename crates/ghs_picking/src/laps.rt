@@ -7,7 +7,7 @@ ghost use Rattle.std.specs.Prelude.{◌≤◌, ◌^◌, length};
 use ghs_choices::schedule_kind::ScheduleKind;
 use ghs_graph::bounds::bound;
 use ghs_graph::graph::Graph;
-use ghs_round_robin::laps::laps_of;
+use ghs_orders::laps::laps_of;
 use peer_network::event::Event;
 
 /// In how many laps a run goes, and in how many it goes at most.

@@ -1,6 +1,6 @@
 //! How long a run is.
 ghost use Rattle.ghs_bits.specs.Bits.{AreBitsOf};
-ghost use Rattle.ghs_chain.specs.Kept.{AreChainsOf};
+ghost use Rattle.ghs_following.specs.Kept.{AreChainsOf};
 ghost use Rattle.ghs_graph.specs.Graph.{Shape};
 ghost use Rattle.ghs_picking.specs.Lengths.{lengths_of};
 ghost use Rattle.peer_network.specs.Network.{network_of};
@@ -9,7 +9,7 @@ ghost use Rattle.peer_network.specs.declared.event.Event.{Event as Happening};
 ghost use Rattle.std.specs.Prelude.{[], ◌≡◌, ◌≤◌, ◌^◌, IfOk, List, length};
 
 use ghs_bits::bits::Bits;
-use ghs_chain::follow::RunChains;
+use ghs_following::chains::RunChains;
 use ghs_following::walk::follow_all;
 use ghs_graph::graph::Graph;
 use peer_network::event::Event;

@@ -1,5 +1,5 @@
 //! Runs by the schedule of a seed, with their lengths.
-ghost use Rattle.ghs_chain.specs.Chains.{longest_chain};
+ghost use Rattle.ghs_following.specs.Chains.{longest_chain};
 ghost use Rattle.ghs_core.specs.NetState.{network};
 ghost use Rattle.ghs_picking.specs.Lengths.{lengths_of};
 ghost use Rattle.ghs_picking.specs.Picking.{IsByRounds, IsPickedBy};

@@ -6,9 +6,10 @@ ghost use Rattle.ghs_world.specs.WorldState.{home};
 ghost use Rattle.std.specs.Prelude.{IfErr, IfOk, OnErr, OnOk, [], ◌≡◌};
 
 use ghs_choices::schedule_kind::ScheduleKind;
-use ghs_lifo::run::run_lifo;
+use ghs_orders::lifo_run::run_lifo;
+use ghs_orders::round_robin_run::run_round_robin;
+use ghs_orders::waits_run::run_waiting;
 use ghs_patient::run::run_patient;
-use ghs_round_robin::run::run_round_robin;
 use ghs_rounds::laws::{
     law_awake_rounds, law_picks_are_by_rounds, law_rounds_are_chains, law_rounds_are_few,
     law_rounds_are_fewer, law_runs_by_rounds_are_short, law_runs_by_rounds_end,
@@ -16,7 +17,6 @@ use ghs_rounds::laws::{
 use ghs_rounds::run::run_rounds;
 use ghs_sched::fault::RunFault;
 use ghs_sched::run::{RunEnd, run_seeded};
-use ghs_waits::run::run_waiting;
 use ghs_world::world::World;
 use peer_schedule::schedule::Schedule;
 use std::alloc::Global;

@@ -10,10 +10,10 @@ use Rattle.ghs_protocol.specs.Laws.{IsLater}
 use Rattle.ghs_protocol.proofs.lemmas.Laws.{halts_stay}
 use Rattle.ghs_protocol.proofs.lemmas.Runs.{after_is_net}
 use Rattle.ghs_core.specs.NetState.{NetState, net_of, network, IsLeastHalted}
-use Rattle.ghs_board.specs.declared.progress.Progress.{Progress}
-use Rattle.ghs_board.specs.Progress.{pair, last_of, NoLess, StartsWith}
-use Rattle.ghs_board.specs.Board.{Published}
-use Rattle.ghs_board.proofs.lemmas.Pairs.{last_or_push, starts_refl}
+use Rattle.ghs_shared.specs.declared.progress.Progress.{Progress}
+use Rattle.ghs_shared.specs.Progress.{pair, last_of, NoLess, StartsWith}
+use Rattle.ghs_shared.specs.Board.{Published}
+use Rattle.ghs_shared.proofs.lemmas.Pairs.{last_or_push, starts_refl}
 use Rattle.ghs_world.specs.WorldState.{WorldState, home}
 use Rattle.ghs_world.specs.Steps.{Commits, Makes, IsSameWorld}
 use Rattle.ghs_pool.specs.Shop.{ShopState, IsPairOf, IsTold, Publishes}

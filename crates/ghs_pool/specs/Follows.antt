@@ -1,7 +1,7 @@
 -- How a run goes on from where it began.
 use Rattle.std.specs.Prelude.{◌≡◌, List, [], ◌++◌}
 use Rattle.peer_network.specs.declared.event.Event.{Event}
-use Rattle.ghs_board.specs.Progress.{StartsWith}
+use Rattle.ghs_shared.specs.Progress.{StartsWith}
 use Rattle.peer_network.specs.declared.wake_set.WakeSet.TheVariants.{All}
 use Rattle.ghs_world.specs.WorldState.{WorldState}
 use Rattle.ghs_pool.specs.Shop.{ShopState}

@@ -1,9 +1,9 @@
 -- A world and what was published of it.
 use Rattle.std.specs.Prelude.{◌≡◌, ◌↔◌, true, [], ◌∷◌, ◌++◌, length}
 use Rattle.ghs_protocol.specs.Marks.{HasEnded}
-use Rattle.ghs_board.specs.declared.progress.Progress.{Progress}
-use Rattle.ghs_board.specs.Progress.{last_of}
-use Rattle.ghs_board.specs.Board.{Published}
+use Rattle.ghs_shared.specs.declared.progress.Progress.{Progress}
+use Rattle.ghs_shared.specs.Progress.{last_of}
+use Rattle.ghs_shared.specs.Board.{Published}
 use Rattle.ghs_core.specs.NetState.{NetState, net_of}
 use Rattle.ghs_world.specs.WorldState.{WorldState}
 

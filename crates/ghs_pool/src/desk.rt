@@ -17,7 +17,7 @@ use std::alloc::Global;
 
 /// A lent shop. Each call answers and refuses as the world's call of that name.
 pub trait Desk {
-    ghost use Rattle.ghs_board.specs.Board.{Published};
+    ghost use Rattle.ghs_shared.specs.Board.{Published};
     ghost use Rattle.ghs_world.specs.WorldState.{WorldState};
 
     ghost world: { Self → WorldState };

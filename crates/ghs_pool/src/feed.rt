@@ -1,7 +1,7 @@
 //! What feeds a worker.
 ghost use Rattle.std.specs.Prelude.{◌≡◌, ◌≤◌, ◌-◌};
 
-use ghs_queue::queue::{ReadyPass, ReadyQueue};
+use ghs_shared::queue::{ReadyPass, ReadyQueue};
 use std::alloc::{AllocError, Global};
 use std::sync::Wait;
 

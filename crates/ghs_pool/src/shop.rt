@@ -3,7 +3,7 @@ ghost use Rattle.std.specs.Prelude.{◌≡◌, ◌≤◌, ◌^◌, ◌&&◌, tru
 ghost use Rattle.ghs_graph.specs.Graph.{IsGraph};
 ghost use Rattle.ghs_protocol.specs.Run.{IsRun};
 ghost use Rattle.ghs_core.specs.NetState.{network};
-ghost use Rattle.ghs_board.specs.Progress.{StartsWith};
+ghost use Rattle.ghs_shared.specs.Progress.{StartsWith};
 ghost use Rattle.ghs_world.specs.Ready.{is_ready};
 ghost use Rattle.ghs_world.specs.Steps.{Makes, HasRoused, IsSameWorld};
 ghost use Rattle.ghs_world.specs.WorldState.{has_turn};
@@ -11,8 +11,8 @@ ghost use Rattle.peer_index.specs.Places.{has_place};
 ghost use Rattle.ghs_pool.specs.Shop.{IsPairOf, IsTold, Publishes};
 
 use crate::moves::{at_once_per_ticket, is_worth_it};
-use ghs_board::board::{Board, Publisher, Reader};
-use ghs_board::progress::Progress;
+use ghs_shared::board::{Board, Publisher, Reader};
+use ghs_shared::progress::Progress;
 use ghs_world::woken::Woken;
 use ghs_world::world::World;
 use peer_network::event::Event;

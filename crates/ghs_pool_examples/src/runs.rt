@@ -2,8 +2,6 @@
 ghost use Rattle.std.specs.Prelude.{◌≡◌};
 ghost use Rattle.ghs_pool.specs.Shop.{IsTold};
 
-use ghs_board::board::{Board, Publisher, Reader};
-use ghs_board::progress::Progress;
 use ghs_lines::numbers::put_number;
 use ghs_pool::desk::Desk;
 use ghs_pool::end::PoolFault;
@@ -11,6 +9,8 @@ use ghs_pool::gate::{Gate, OpenGate, Tally};
 use ghs_pool::shop::Shop;
 use ghs_pool::workers::{run_watched, run_workers};
 use ghs_sched::run::RunEnd;
+use ghs_shared::board::{Board, Publisher, Reader};
+use ghs_shared::progress::Progress;
 use ghs_test_graphs::build::graph_of;
 use ghs_test_graphs::graphs::{PAIR, PATH_OF_FIVE, PATH_OF_THREE};
 use ghs_world::ticket::Step;

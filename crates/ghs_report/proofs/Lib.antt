@@ -3,3 +3,11 @@ pub mod lemmas
 mod Counts
 mod Examples
 mod WritingLemmas
+mod Agreeing
+mod Halts
+mod Listing
+mod Singles
+mod Taking
+mod Trees
+mod Uniting
+mod Whole

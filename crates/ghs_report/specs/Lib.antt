@@ -4,3 +4,8 @@ pub mod ReportText
 pub mod TreeText
 pub mod Writing
 pub mod Written
+pub mod Components
+pub mod Fragments
+pub mod Halting
+pub mod CoreLaws
+pub mod CoreLines

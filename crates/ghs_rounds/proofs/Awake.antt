@@ -30,8 +30,8 @@ use Rattle.ghs_protocol.proofs.lemmas.Runs.{after_is_net, after_more, lawful_und
 use Rattle.ghs_protocol.proofs.lemmas.Time.{component, halting_counts, joined_component, open_or_ended}
 use Rattle.ghs_core.specs.NetState.{delivery, work_at}
 use Rattle.peer_chains.specs.Chains.{Chains}
-use Rattle.ghs_chain.specs.Chains.{chains_of, reacted}
-use Rattle.ghs_chain.proofs.lemmas.Lengths.{same_lengths}
+use Rattle.ghs_following.specs.Chains.{chains_of, reacted}
+use Rattle.ghs_following.proofs.lemmas.Lengths.{same_lengths}
 use Rattle.peer_index.specs.Places.{HasPlace}
 use Rattle.ghs_rounds.specs.Rounds.{events_in}
 use Rattle.ghs_rounds.proofs.AnyOrder.{Begun, ByNumbers, FromByNumbers, Over, Went, goes_on}

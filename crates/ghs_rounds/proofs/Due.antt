@@ -26,7 +26,7 @@ use Rattle.ghs_protocol.proofs.lemmas.Time.{Came, Has, queue_hit, queue_miss}
 use Rattle.ghs_core.specs.Waits.{waits}
 use Rattle.ghs_core.proofs.lemmas.Waiting.{waits_so, waits_test}
 use Rattle.peer_chains.specs.Chains.{Chains, behind, hears, taken}
-use Rattle.ghs_chain.specs.Chains.{is_deferred, reacted}
+use Rattle.ghs_following.specs.Chains.{is_deferred, reacted}
 use Rattle.ghs_rounds.proofs.Timing.{AreLate, sent_come}
 
 abbrev pub Due : (Message → Type 0) → ℕ → List Message → List ℕ → Type 0

@@ -19,7 +19,7 @@ use Rattle.ghs_protocol.specs.Marks.{HasEnded, HasHalted}
 use Rattle.ghs_protocol.specs.Net.{Net}
 use Rattle.ghs_protocol.specs.Run.{net_after}
 use Rattle.ghs_core.specs.NetState.{work_at}
-use Rattle.ghs_chain.specs.Chains.{chains_of, longest_chain}
+use Rattle.ghs_following.specs.Chains.{chains_of, longest_chain}
 use Rattle.ghs_rounds.specs.Laws.{IsSimple}
 use Rattle.ghs_rounds.specs.Moments.{GoesByRounds, Happened, IsByRounds, Moments, Passed, Stands, moved, none_sent, round_of}
 

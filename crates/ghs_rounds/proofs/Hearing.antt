@@ -4,11 +4,11 @@ use Rattle.ghs_node.specs.declared.delta.Fate.{Fate}
 use Rattle.peer_network.specs.declared.event.Event.{Event}
 use Rattle.ghs_core.specs.NetState.{NetState, network}
 use Rattle.peer_chains.specs.Chains.{Chains, hears}
-use Rattle.ghs_chain.specs.Chains.{is_deferred}
+use Rattle.ghs_following.specs.Chains.{is_deferred}
 use Rattle.peer_chains.specs.Kept.{Kept, seen}
-use Rattle.ghs_chain.specs.Kept.{AreChains}
+use Rattle.ghs_following.specs.Kept.{AreChains}
 use Rattle.peer_chains.proofs.lemmas.Bounding.{IsWithin, hears_within}
-use Rattle.ghs_chain.proofs.lemmas.Bounding.{run_within}
+use Rattle.ghs_following.proofs.lemmas.Bounding.{run_within}
 
 -- no number comes near the end of its range
 pub hears_small : (s : NetState) (k : Kept) (e : Event) (asleep : Bool) (f : Fate) → AreChains s k → length s.trace < 2 ^ 41 →

@@ -22,12 +22,12 @@ use Rattle.ghs_world.specs.Steps.{Makes}
 use Rattle.peer_network.specs.Wakes.{may_wake}
 use Rattle.ghs_world.specs.WorldState.{WorldState, home}
 use Rattle.peer_chains.specs.Chains.{Chains}
-use Rattle.ghs_chain.specs.Chains.{chains_of, reacted}
+use Rattle.ghs_following.specs.Chains.{chains_of, reacted}
 use Rattle.peer_chains.specs.Kept.{Fits, seen}
-use Rattle.ghs_chain.specs.Kept.{AreChains}
+use Rattle.ghs_following.specs.Kept.{AreChains}
 use Rattle.peer_chains.proofs.lemmas.Bounding.{IsWithin}
 use Rattle.peer_chains.proofs.lemmas.Fitting.{fits_kept}
-use Rattle.ghs_chain.proofs.lemmas.Following.{chains_of_more}
+use Rattle.ghs_following.proofs.lemmas.Following.{chains_of_more}
 use Rattle.ghs_patient.specs.Choices.{IsStirred, far_takes}
 use Rattle.ghs_patient.proofs.lemmas.Stirring.{same_back, same_moves}
 use Rattle.ghs_rounds.specs.Choices.{AreByRound, AreChoices, AreChoicesBut, AreFor, AreRounds, ChoicesState, HasHeard, IsPast, RoundsState, hides_in, moves_in}

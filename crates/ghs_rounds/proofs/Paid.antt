@@ -29,8 +29,8 @@ use Rattle.ghs_protocol.proofs.lemmas.Nodes.{ports_many}
 use Rattle.ghs_protocol.proofs.lemmas.Time.{Has, IsAnswer, IsTestBy, WasProbing, answer_free, answer_heard, awaited, bill, bill_few, calls_or_frees, component, component_closed, component_self, level_few, levels_rise, names_stay, probe_at, probe_level, prober_was, probes_aside, search, test_free, test_heard, tree_taken, trees_stay}
 use Rattle.ghs_protocol.proofs.lemmas.WellFormed.{after_formed}
 use Rattle.peer_chains.specs.Chains.{Chains}
-use Rattle.ghs_chain.specs.Chains.{reacted}
-use Rattle.ghs_chain.proofs.lemmas.Lengths.{SameLengths}
+use Rattle.ghs_following.specs.Chains.{reacted}
+use Rattle.ghs_following.proofs.lemmas.Lengths.{SameLengths}
 use Rattle.ghs_rounds.specs.Rounds.{round_events}
 use Rattle.ghs_rounds.proofs.Due.{Due, due_all, due_map, due_on, late_none}
 use Rattle.ghs_rounds.proofs.Paying as paying

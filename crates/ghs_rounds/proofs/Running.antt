@@ -19,9 +19,9 @@ use Rattle.ghs_sched.specs.declared.run.RunEnd.TheVariants.{Halted}
 use Rattle.ghs_sched.specs.Runs.{IsEnd}
 use Rattle.ghs_sched.proofs.lemmas.Runs.{still_going, turn_left}
 use Rattle.peer_chains.specs.Chains.{Chains}
-use Rattle.ghs_chain.specs.Chains.{chains_of, longest_chain}
+use Rattle.ghs_following.specs.Chains.{chains_of, longest_chain}
 use Rattle.peer_chains.proofs.lemmas.Bounding.{most_within}
-use Rattle.ghs_chain.specs.Kept.{AreChains}
+use Rattle.ghs_following.specs.Kept.{AreChains}
 use Rattle.ghs_rounds.specs.Choices.{AreRounds, IsNextClock, RoundsState, events_of}
 use Rattle.ghs_rounds.specs.Clock.{ClockState}
 use Rattle.ghs_rounds.specs.Laws.{AreFewRounds, AwakeRoundsAreFew, PicksAreByRounds, RoundsAreFewer, SimpleRoundsAreFew}

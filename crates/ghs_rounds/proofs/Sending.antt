@@ -15,7 +15,7 @@ use Rattle.peer_network.specs.Events.{event_node}
 use Rattle.peer_network.proofs.lemmas.Updates.{one_place, put_at_hit, put_at_miss}
 use Rattle.ghs_world.specs.Upkeep.{changed}
 use Rattle.peer_chains.specs.Chains.{Chains, behind, heard, hears, sent, sent_on, taken}
-use Rattle.ghs_chain.specs.Chains.{is_deferred, reacted}
+use Rattle.ghs_following.specs.Chains.{is_deferred, reacted}
 use Rattle.peer_chains.proofs.lemmas.Bounding.{Below, IsWithin, behind_below, heard_within, put_below, put_node, sent_within}
 use Rattle.ghs_patient.specs.Choices.{far_takes}
 use Rattle.ghs_rounds.specs.Rounds.{is_by, is_due}

@@ -24,7 +24,7 @@ use Rattle.ghs_protocol.proofs.lemmas.Runs.{lawful_under}
 use Rattle.peer_index.specs.Places.{HasPlace, all_events}
 use Rattle.peer_schedule.specs.Picks.{IsPick}
 use Rattle.peer_chains.specs.Chains.{Chains, behind, hears, sent, sent_on, taken}
-use Rattle.ghs_chain.specs.Chains.{chains_of, is_deferred, reacted}
+use Rattle.ghs_following.specs.Chains.{chains_of, is_deferred, reacted}
 use Rattle.ghs_patient.specs.Patience.{moves_on, or_else, puts_back}
 use Rattle.ghs_patient.proofs.lemmas.Picked.{picked_in}
 use Rattle.ghs_rounds.specs.Moments.{GoesByRounds, IsByRounds, IsPickedByMoments, IsReaction, Moments, first_taken, is_before, is_before_early, is_early, moved, none_sent, round_of, sent_in, taken_by}

@@ -23,13 +23,13 @@ use Rattle.peer_network.proofs.lemmas.Waking.{each_is_woken}
 use Rattle.std.proofs.lemmas.List.Elements.{All-nil}
 use Rattle.peer_chains.specs.Chains.{Chains, no_chains}
 use Rattle.peer_chains.specs.Kept.{Fits, seen}
-use Rattle.ghs_chain.proofs.lemmas.Following.{none_are}
+use Rattle.ghs_following.proofs.lemmas.Following.{none_are}
 use Rattle.ghs_patient.specs.Patience.{moves_on, or_else, patient_events, puts_back, second_goes, uncovers}
 use Rattle.ghs_patient.proofs.lemmas.Picks.{is_net, some_patient}
 use Rattle.ghs_rounds.specs.Choices.{AreChoices, AreChoicesBut, AreRounds, ChoicesState, HasSettled, IsPast, RoundsState, events_of, hides_in, marked_all, moves_in}
 use Rattle.ghs_rounds.specs.Clock.{ClockState}
 use Rattle.ghs_rounds.specs.Rounds.{has_due_second, hides_due, is_by, is_due, moves_due}
-use Rattle.ghs_chain.proofs.lemmas.Lengths.{SameLengths, same_lengths}
+use Rattle.ghs_following.proofs.lemmas.Lengths.{SameLengths, same_lengths}
 use Rattle.ghs_rounds.proofs.Marking.{all_right, right_all}
 use Rattle.ghs_patient.proofs.lemmas.Picked.{second_there}
 use Rattle.ghs_patient.proofs.lemmas.Places.{placed_of}

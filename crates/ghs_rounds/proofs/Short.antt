@@ -38,11 +38,11 @@ use Rattle.ghs_core.specs.NetState.{delivery, work_at}
 use Rattle.peer_index.specs.Places.{HasPlace, all_events}
 use Rattle.peer_index.proofs.lemmas.Listed.{listed}
 use Rattle.peer_chains.specs.Chains.{Chains}
-use Rattle.ghs_chain.specs.Chains.{chains_of, reacted}
+use Rattle.ghs_following.specs.Chains.{chains_of, reacted}
 use Rattle.ghs_patient.specs.Patience.{first_waits, or_else, puts_back}
 use Rattle.ghs_patient.proofs.lemmas.Picks.{some_patient}
 use Rattle.ghs_rounds.specs.Rounds.{events_in, hides_due, moves_due}
-use Rattle.ghs_chain.proofs.lemmas.Lengths.{same_lengths}
+use Rattle.ghs_following.proofs.lemmas.Lengths.{same_lengths}
 use Rattle.ghs_patient.proofs.lemmas.Picked.{in_either}
 use Rattle.ghs_rounds.proofs.AnyOrder.{Begun, ByNumbers, Over, Went}
 use Rattle.ghs_rounds.proofs.Picked.{lawful_pick, of_round}

@@ -41,11 +41,11 @@ use Rattle.ghs_core.proofs.lemmas.Waiting.{waits_so, waits_test}
 use Rattle.peer_index.specs.Places.{all_events}
 use Rattle.peer_index.proofs.lemmas.Listed.{listed}
 use Rattle.peer_chains.specs.Chains.{Chains, hears, taken}
-use Rattle.ghs_chain.specs.Chains.{is_deferred, reacted}
+use Rattle.ghs_following.specs.Chains.{is_deferred, reacted}
 use Rattle.peer_chains.proofs.lemmas.Bounding.{IsWithin, more_within}
 use Rattle.ghs_patient.specs.Patience.{first_waits, moves_on, or_else, puts_back}
 use Rattle.ghs_rounds.specs.Rounds.{has_due_second, hides_due, is_by, is_due, moves_due, round_events}
-use Rattle.ghs_chain.proofs.lemmas.Lengths.{SameLengths}
+use Rattle.ghs_following.proofs.lemmas.Lengths.{SameLengths}
 use Rattle.peer_chains.proofs.lemmas.Hears.{hears_node}
 use Rattle.ghs_rounds.proofs.Sending.{reacted_timely}
 use Rattle.ghs_rounds.proofs.Timing.{AreLate, HasCome, heard_is, hears_queue, late_all, late_append, sent_come, sent_node}

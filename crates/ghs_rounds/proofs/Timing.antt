@@ -15,7 +15,7 @@ use Rattle.peer_network.specs.Network.{Network, far, far_port}
 use Rattle.ghs_protocol.proofs.lemmas.Queues.{all_first, all_rest}
 use Rattle.peer_network.proofs.lemmas.Updates.{one_place, put_at_hit, put_at_miss}
 use Rattle.peer_chains.specs.Chains.{Chains, behind, heard, hears, sent, sent_on, taken}
-use Rattle.ghs_chain.specs.Chains.{is_deferred}
+use Rattle.ghs_following.specs.Chains.{is_deferred}
 
 -- Of a queue: who takes from its front what doesn't wait, takes a message that arrives in round r or later, if it hasn't waited before one that does.
 abbrev pub AreLate : NodeState → ℕ → ℕ → List Message → List ℕ → Type 0

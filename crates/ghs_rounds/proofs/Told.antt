@@ -30,13 +30,13 @@ use Rattle.ghs_core.specs.NetState.{delivery, work_at}
 use Rattle.peer_index.specs.Places.{HasPlace, all_events}
 use Rattle.peer_index.proofs.lemmas.Listed.{listed}
 use Rattle.peer_chains.specs.Chains.{Chains, hears, most_below, no_chains}
-use Rattle.ghs_chain.specs.Chains.{answered, chains_after, chains_of, is_deferred, longest_chain, reacted}
+use Rattle.ghs_following.specs.Chains.{answered, chains_after, chains_of, is_deferred, longest_chain, reacted}
 use Rattle.peer_chains.proofs.lemmas.Bounding.{most_within}
-use Rattle.ghs_chain.proofs.lemmas.Following.{chains_more}
+use Rattle.ghs_following.proofs.lemmas.Following.{chains_more}
 use Rattle.ghs_patient.specs.Patience.{or_else}
 use Rattle.ghs_patient.proofs.lemmas.Picks.{some_patient}
 use Rattle.ghs_rounds.specs.Rounds.{events_in, hides_due, moves_due}
-use Rattle.ghs_chain.proofs.lemmas.Lengths.{SameLengths, same_lengths}
+use Rattle.ghs_following.proofs.lemmas.Lengths.{SameLengths, same_lengths}
 use Rattle.ghs_rounds.proofs.AnyOrder.{Begun, ByNumbers, Over, Went}
 use Rattle.ghs_rounds.proofs.Picked.{lawful_pick, of_round}
 use Rattle.ghs_rounds.proofs.Settling.{some_now}

@@ -11,9 +11,9 @@ use Rattle.peer_index.specs.Places.{HasPlace, place}
 use Rattle.ghs_world.specs.WorldState.{WorldState, home, wakers}
 use Rattle.ghs_node.specs.declared.delta.Delta.{Delta}
 use Rattle.peer_network.specs.Events.{event_node}
-use Rattle.ghs_chain.specs.Chains.{reacted}
+use Rattle.ghs_following.specs.Chains.{reacted}
 use Rattle.peer_chains.specs.Kept.{SamePlaces, seen}
-use Rattle.ghs_chain.specs.Kept.{AreChains}
+use Rattle.ghs_following.specs.Kept.{AreChains}
 use Rattle.ghs_patient.specs.Choices.{far_takes}
 use Rattle.ghs_patient.specs.Walks.{on_each, on_takes}
 use Rattle.ghs_rounds.specs.Clock.{ClockState}

@@ -11,7 +11,7 @@ use Rattle.ghs_protocol.specs.Marks.{HasEnded}
 use Rattle.peer_network.specs.Network.{network_of}
 use Rattle.ghs_protocol.specs.Run.{net_after}
 use Rattle.peer_network.specs.Wakes.{AllMayWake}
-use Rattle.ghs_chain.specs.Chains.{longest_chain}
+use Rattle.ghs_following.specs.Chains.{longest_chain}
 use Rattle.ghs_rounds.specs.Moments.{GoesByRounds, IsByRounds, IsPickedByMoments, Moments}
 use Rattle.ghs_rounds.specs.Runs.{IsPickedByRounds}
 

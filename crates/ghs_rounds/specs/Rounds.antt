@@ -10,7 +10,7 @@ use Rattle.ghs_protocol.specs.Net.{Net}
 use Rattle.ghs_protocol.specs.Run.{net_after}
 use Rattle.peer_index.specs.Places.{all_events}
 use Rattle.peer_chains.specs.Chains.{Chains}
-use Rattle.ghs_chain.specs.Chains.{chains_of}
+use Rattle.ghs_following.specs.Chains.{chains_of}
 use Rattle.ghs_patient.specs.Patience.{moves_on, or_else, puts_back}
 
 -- there is a message, and the chain that it ends has r messages at most: by round r it has arrived

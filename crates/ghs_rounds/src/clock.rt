@@ -1,6 +1,6 @@
 //! Which round it is, and what is due in it.
 ghost use Rattle.peer_chains.specs.Chains.{hears, no_chains, sent};
-ghost use Rattle.ghs_chain.specs.Chains.{is_deferred};
+ghost use Rattle.ghs_following.specs.Chains.{is_deferred};
 ghost use Rattle.peer_chains.specs.Kept.{Fits, HasPlace, HasPlaceOf, SamePlaces, seen};
 ghost use Rattle.ghs_graph.specs.Ports.{ports_of};
 ghost use Rattle.peer_network.specs.Events.{event_node};
@@ -9,7 +9,7 @@ ghost use Rattle.ghs_rounds.specs.Rounds.{has_due_second, is_by, is_due};
 ghost use Rattle.std.specs.List.{All};
 ghost use Rattle.std.specs.Prelude.{◌≡◌, ℕ, ◌-◌, ◌<◌, ◌≤◌, ◌^◌, suc, IfOk, length, OnOk};
 
-use ghs_chain::fate::is_deferred;
+use ghs_following::fate::is_deferred;
 use ghs_graph::graph::Graph;
 use ghs_node::delta::Delta;
 use peer_chains::chains::Chains;

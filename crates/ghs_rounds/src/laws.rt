@@ -1,7 +1,7 @@
 //! What holds of every run by rounds. Each law is a function that does nothing.
 ghost use Rattle.ghs_rounds.specs.Laws.{AwakeChainsAreShort, AwakeRoundsAreFew, AwakeRoundsAreNear, PicksAreByMoments, PicksAreByRounds, RoundsAreChains, RoundsAreFew, RoundsAreFewer, RunsByRoundsAreShort, RunsByRoundsEnd, SimpleRoundsAreFew, WokenRoundsAreFew};
 
-use ghs_chain::laws::{law_chain_is_sent, law_chain_within_bound};
+use ghs_following::laws::{law_chain_is_sent, law_chain_within_bound};
 use ghs_protocol::interleavings::{
     law_bound, law_one_waits, law_others, law_patience_lasts, law_requeues, law_rules,
     law_sharp_bound, law_turns,

@@ -1,5 +1,5 @@
 //! Runs that go on by rounds, and so end.
-ghost use Rattle.ghs_chain.specs.Chains.{longest_chain};
+ghost use Rattle.ghs_following.specs.Chains.{longest_chain};
 ghost use Rattle.ghs_core.specs.NetState.{network};
 ghost use Rattle.ghs_protocol.specs.Marks.{HasEnded};
 ghost use Rattle.ghs_rounds.specs.Choices.{AreRounds};

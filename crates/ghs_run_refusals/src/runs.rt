@@ -2,8 +2,6 @@
 ghost use Rattle.ghs_pool.specs.Shop.{IsTold};
 ghost use Rattle.std.specs.Prelude.{◌≡◌, []};
 
-use ghs_board::board::{Board, Publisher};
-use ghs_board::progress::Progress;
 use ghs_choices::schedule_kind::ScheduleKind;
 use ghs_core::event::Event;
 use ghs_graph::graph::Graph;
@@ -20,6 +18,8 @@ use ghs_refusing::scenes::{
 use ghs_sched::fault::RunFault;
 use ghs_sched::replay::replay;
 use ghs_sched::run::run_seeded;
+use ghs_shared::board::{Board, Publisher};
+use ghs_shared::progress::Progress;
 use ghs_world::world::World;
 use peer_network::wake_set::WakeSet;
 use peer_schedule::fault::ReplayFault;

@@ -9,7 +9,6 @@ use Rattle.ghs_node.specs.declared.message.Phase.{Phase}
 use Rattle.ghs_node.specs.declared.message.Phase.TheVariants.{Sleeping, Find, Found}
 use Rattle.ghs_node.specs.declared.row_name.RowName.{RowName}
 use Rattle.ghs_node.specs.declared.row_name.RowName.TheVariants as names
-use Rattle.peer_words.specs.declared.value.Carried.TheVariants.{Nothing, One, Two, Three}
 use Rattle.peer_words.specs.declared.value.Said.{Said}
 use Rattle.peer_words.specs.declared.value.Saying.{Saying}
 use Rattle.peer_words.specs.declared.value.Value.TheVariants.{Link, Number, Word}
@@ -61,10 +60,10 @@ phase_said s = record { name = codes "phase"; value = Word (phase_word s) }
 
 -- a message in words
 abbrev pub says : Message → Saying
-says (Connect l) = record { kind = codes "connect"; carried = One (level_said l ∷ []) }
-says (Initiate l f s) = record { kind = codes "initiate"; carried = Three (level_said l ∷ key_said (Some f) ∷ phase_said s ∷ []) }
-says (Test l f) = record { kind = codes "test"; carried = Two (level_said l ∷ key_said (Some f) ∷ []) }
-says Accept = record { kind = codes "accept"; carried = Nothing }
-says Reject = record { kind = codes "reject"; carried = Nothing }
-says (Report w) = record { kind = codes "report"; carried = One (key_said w ∷ []) }
-says ChangeRoot = record { kind = codes "changeroot"; carried = Nothing }
+says (Connect l) = record { kind = codes "connect"; carried = level_said l ∷ [] }
+says (Initiate l f s) = record { kind = codes "initiate"; carried = level_said l ∷ key_said (Some f) ∷ phase_said s ∷ [] }
+says (Test l f) = record { kind = codes "test"; carried = level_said l ∷ key_said (Some f) ∷ [] }
+says Accept = record { kind = codes "accept"; carried = [] }
+says Reject = record { kind = codes "reject"; carried = [] }
+says (Report w) = record { kind = codes "report"; carried = key_said w ∷ [] }
+says ChangeRoot = record { kind = codes "changeroot"; carried = [] }

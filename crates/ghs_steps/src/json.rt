@@ -43,7 +43,10 @@ fn put_work(text: &mut Vec<u8>, work: &Work) -> Result<(), AllocError>
 {
     match work {
         Work::Wake => put_word_member(text, b",", b"kind", b"wake"),
-        Work::Deliver { port: _, message } => put_message_members(text, b",", &says(message)),
+        Work::Deliver { port: _, message } => {
+            let saying = says(*text.allocator(), message)?;
+            put_message_members(text, b",", &saying)
+        }
     }
 }
 
@@ -197,6 +200,7 @@ fn put_send(text: &mut Vec<u8>, send: &Sent) -> Result<(), AllocError>
     ensures { IfOk result (λ _. text.new.items ≡ text.old.items ++ send_json send.now) }
 {
     put_way(text, send.port, send.to, send.at)?;
-    put_message_members(text, b",", &says(&send.message))?;
+    let saying = says(*text.allocator(), &send.message)?;
+    put_message_members(text, b",", &saying)?;
     text.extend_from_slice(b"}")
 }

@@ -108,7 +108,8 @@ pub(crate) fn fate_word(fate: Fate) -> &'static [u8]
 fn put_message_field(text: &mut Vec<u8>, message: &Message) -> Result<(), AllocError>
     ensures { IfOk result (λ _. text.new.items ≡ text.old.items ++ field (message_text (says message.now))) }
 {
-    put_message(text, &says(message))?;
+    let saying = says(*text.allocator(), message)?;
+    put_message(text, &saying)?;
     text.extend_from_slice(b" ")
 }
 
@@ -175,7 +176,8 @@ fn put_send(text: &mut Vec<u8>, send: &Sent) -> Result<(), AllocError>
     text.extend_from_slice(b">")?;
     put_number(text, u128::from(send.to))?;
     text.extend_from_slice(b":")?;
-    put_message(text, &says(&send.message))
+    let saying = says(*text.allocator(), &send.message)?;
+    put_message(text, &saying)
 }
 
 /// One variable or mark, with its new value.

@@ -1,5 +1,5 @@
 //! The words that texts of steps have in common.
-ghost use Rattle.std.specs.Prelude.{◌≡◌};
+ghost use Rattle.std.specs.Prelude.{◌≡◌, IfOk};
 ghost use Rattle.ghs_steps.specs.Words.{key_said, level_said, mark_word, phase_said, phase_word, row_word, says};
 
 use ghs_graph::key::Key;
@@ -7,7 +7,8 @@ use ghs_node::level::Level;
 use ghs_node::mark::Mark;
 use ghs_node::message::{Message, Phase};
 use ghs_node::row_name::RowName;
-use peer_words::value::{Carried, Said, Saying, Value, Word};
+use peer_words::value::{Said, Saying, Value, Word};
+use std::alloc::{AllocError, Global};
 
 pub(crate) fn phase_word(phase: Phase) -> &'static [u8]
     ensures { result.now ≡ phase_word phase }
@@ -60,49 +61,44 @@ pub fn row_word(row: RowName) -> &'static [u8]
     }
 }
 
-/// A message in words.
+/// A message in words. Refusal: out of memory.
 ///
 /// ```text
-/// let saying = says(&Message::Accept);
+/// let saying = says(alloc, &Message::Accept)?;
 /// // its kind is `accept`, and it carries nothing
 /// ```
-pub fn says(message: &Message) -> Saying
-    ensures { result ≡ says message.now }
+pub fn says(alloc: Global, message: &Message) -> Result<Saying<'static>, AllocError>
+    ensures { IfOk result (λ saying. saying ≡ says message.now) }
 {
     match message {
-        Message::Connect(level) => Saying::new(b"connect", Carried::One([level_said(*level)])),
-        Message::Initiate(level, name, phase) => Saying::new(
-            b"initiate",
-            Carried::Three([
-                level_said(*level),
-                key_said(Some(*name)),
-                phase_said(*phase),
-            ]),
-        ),
-        Message::Test(level, name) => Saying::new(
-            b"test",
-            Carried::Two([level_said(*level), key_said(Some(*name))]),
-        ),
-        Message::Accept => Saying::new(b"accept", Carried::Nothing),
-        Message::Reject => Saying::new(b"reject", Carried::Nothing),
-        Message::Report(key) => Saying::new(b"report", Carried::One([key_said(*key)])),
-        Message::ChangeRoot => Saying::new(b"changeroot", Carried::Nothing),
+        Message::Connect(level) => Saying::bare(alloc, b"connect").with(level_said(*level)),
+        Message::Initiate(level, name, phase) => Saying::bare(alloc, b"initiate")
+            .with(level_said(*level))?
+            .with(key_said(Some(*name)))?
+            .with(phase_said(*phase)),
+        Message::Test(level, name) => Saying::bare(alloc, b"test")
+            .with(level_said(*level))?
+            .with(key_said(Some(*name))),
+        Message::Accept => Ok(Saying::bare(alloc, b"accept")),
+        Message::Reject => Ok(Saying::bare(alloc, b"reject")),
+        Message::Report(key) => Saying::bare(alloc, b"report").with(key_said(*key)),
+        Message::ChangeRoot => Ok(Saying::bare(alloc, b"changeroot")),
     }
 }
 
-fn level_said(level: Level) -> Said
+fn level_said(level: Level) -> Said<'static>
     ensures { result ≡ level_said level }
 {
     Said::new(b"level", Value::Number(u64::from(level.get())))
 }
 
-fn key_said(key: Option<Key>) -> Said
+fn key_said(key: Option<Key>) -> Said<'static>
     ensures { result ≡ key_said key }
 {
     Said::new(b"key", Value::Link(key))
 }
 
-fn phase_said(phase: Phase) -> Said
+fn phase_said(phase: Phase) -> Said<'static>
     ensures { result ≡ phase_said phase }
 {
     Said::new(b"phase", Value::Word(Word::of(phase_word(phase))))

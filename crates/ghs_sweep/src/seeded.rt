@@ -26,7 +26,7 @@ impl Swept for Ghs {
 
     ghost are_figures_of = { AreFiguresOf };
 
-    fn name() -> Word {
+    fn name() -> Word<'static> {
         Word::of(b"ghs")
     }
 
@@ -34,7 +34,7 @@ impl Swept for Ghs {
         7
     }
 
-    fn kind_name(kind: usize) -> Word {
+    fn kind_name(kind: usize) -> Word<'static> {
         kind_word(kind)
     }
 
@@ -55,7 +55,7 @@ impl Swept for Ghs {
 }
 
 /// The name of a kind of messages.
-fn kind_word(kind: usize) -> Word
+fn kind_word(kind: usize) -> Word<'static>
     ensures { result ≡ kind_word kind }
 {
     match kind {

@@ -2,7 +2,7 @@
 use Rattle.std.specs.Prelude.{◌≡◌, ℕ, List, length}
 use Rattle.ghs_graph.specs.Bound.{IsBound}
 use Rattle.ghs_graph.specs.Graph.{Shape}
-use Rattle.ghs_page.specs.Page.{pair_text}
+use Rattle.peer_page.specs.Page.{pair_text}
 use Rattle.peer_network.specs.declared.event.Event.{Event}
 use Rattle.ghs_view.specs.RunPage.{run_json}
 

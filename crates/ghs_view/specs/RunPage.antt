@@ -3,7 +3,7 @@ use Rattle.std.specs.Prelude.{◌≡◌, ℕ, List, length}
 use Rattle.ghs_view.specs.Data.{data_json}
 use Rattle.ghs_graph.specs.Bound.{IsBound}
 use Rattle.ghs_graph.specs.Graph.{Shape}
-use Rattle.ghs_page.specs.Page.{page_text}
+use Rattle.peer_page.specs.Page.{page_text}
 use Rattle.peer_network.specs.declared.event.Event.{Event}
 use Rattle.peer_page.specs.Limits.{events_to}
 

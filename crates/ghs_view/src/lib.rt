@@ -6,7 +6,7 @@
 //! links, what each event does, and the counts. docs/FORMATS.md has the format.
 //!
 //! At most 2,000 nodes and 100,000 events that are shown (`peer_page`). What a browser makes of a page is tested and not proved
-//! (`ghs_page`).
+//! (`peer_page`).
 #![tactic(auto)]
 
 pub mod data;

@@ -10,9 +10,9 @@ use crate::data::data_of;
 use ghs_core::event::Event;
 use ghs_graph::bounds::bound;
 use ghs_graph::graph::Graph;
-use ghs_page::page;
 use peer_page::fault::PageFault;
 use peer_page::limits::{first_events, is_too_large};
+use peer_page::page;
 use std::alloc::Global;
 
 /// The page of two runs of one network, beside each other: of each its steps from the opening on to the event `to`, or to its

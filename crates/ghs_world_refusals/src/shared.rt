@@ -1,10 +1,10 @@
 //! What threads share: boards and queues of numbers.
 ghost use Rattle.std.specs.Prelude.{◌≡◌};
 
-use ghs_board::board::Board;
-use ghs_board::progress::Progress;
-use ghs_queue::queue::{CloseFault, ReadyPass, ReadyQueue};
 use ghs_refusing::orders::{Turn, order, refuse, turn_of};
+use ghs_shared::board::Board;
+use ghs_shared::progress::Progress;
+use ghs_shared::queue::{CloseFault, ReadyPass, ReadyQueue};
 use std::alloc::Global;
 use std::process::Abort;
 use std::sync::Wait;

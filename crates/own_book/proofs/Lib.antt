@@ -9,3 +9,4 @@ mod Readings
 mod Rows
 mod Signs
 mod Written
+mod Order

@@ -1,8 +1,18 @@
 -- The texts of questions that a run asks.
 use Rattle.std.specs.Prelude.{ℕ, ◌≡◌, ◌≤◌, true, codes, decimal, ◌++◌, List, Ok}
+use Rattle.std.specs.List.{flat_map}
+use Rattle.ghs_graph.specs.declared.port.Port.{Port}
 use Rattle.own_book.specs.Question.{asked}
 use Rattle.own_book.specs.Words.{is_message, is_state}
 use Rattle.own_book.specs.declared.question.Asked.TheVariants.{Wake, Take}
+use Rattle.peer_words.specs.Text.{key_text}
+
+unfoldable pub key_behind_blank : Port → List ℕ
+key_behind_blank p = codes " " ++ key_text p.key
+
+-- `open NODE KEY ..`: the keys of its ports
+unfoldable pub open_text : ℕ → List Port → List ℕ
+open_text node ports = codes "open " ++ decimal node ++ flat_map key_behind_blank ports
 
 -- `wake NODE STATE`
 abbrev pub wake_text : ℕ → List ℕ → List ℕ

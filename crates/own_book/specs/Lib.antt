@@ -11,3 +11,5 @@ pub mod Question
 pub mod Reads
 pub mod Text
 pub mod Words
+pub mod Sends
+pub mod Variables

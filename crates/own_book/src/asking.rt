@@ -1,9 +1,34 @@
 //! Questions, written.
-ghost use Rattle.own_book.specs.Asking.{take_text, wake_text};
+ghost use Rattle.own_book.specs.Asking.{key_behind_blank, open_text, take_text, wake_text};
+ghost use Rattle.std.specs.List.{flat_map};
 ghost use Rattle.std.specs.Prelude.{IfOk, ◌++◌, ◌≡◌};
 
+use ghs_graph::port::Port;
 use ghs_lines::numbers::put_number;
+use peer_words::text::put_key;
 use std::alloc::AllocError;
+
+/// Appends the question what the first state of a node with these ports is. Refusal: out of memory.
+#[tactic(auto, unfolding(crate::specs::Asking::open_text))]
+pub fn put_open(text: &mut Vec<u8>, node: u32, ports: &[Port]) -> Result<(), AllocError>
+    ensures { IfOk result (λ _. text.new.items ≡ text.old.items ++ open_text node ports.now) }
+{
+    text.extend_from_slice(b"open ")?;
+    put_number(text, node as u128)?;
+    put_keys(text, ports)
+}
+
+/// The keys of ports, a blank before each.
+#[tactic(auto, unfolding(crate::specs::Asking::key_behind_blank))]
+fn put_keys(text: &mut Vec<u8>, ports: &[Port]) -> Result<(), AllocError>
+    ensures { IfOk result (λ _. text.new.items ≡ text.old.items ++ flat_map key_behind_blank ports.now) }
+{
+    for port in ports {
+        text.extend_from_slice(b" ")?;
+        put_key(text, port.key)?;
+    }
+    Ok(())
+}
 
 /// Appends the question what a node does in this state when it wakes by itself.
 ///

@@ -1,4 +1,4 @@
-//! The text of a book: what a user's node answers to questions.
+//! The text of a book: what a user's node answers to questions, and what is asked of an answer beyond its form.
 //!
 //! A node that a user brings is a function from text to text. The runtime asks, for example, what node 2 does in this state with
 //! this message; the answer says the state after it, whether the message waits, and what is sent. A *book* is such a function
@@ -10,14 +10,19 @@
 //! answers to one question are refused by the numbers of both lines. `Book::answer` says what the book says. What was read and
 //! written is read back (`law_book`), and each text is one book or has one fault (`law_one_book`).
 //!
+//! Proved of an answer: `same_at_ports` answers yes exactly where each port has the same messages in the same order
+//! (`SameAtPorts`); `sends_fault` gives the fault of the first send that has one; `says_asleep` and `says_halted` find their
+//! variable wherever it stands in a state.
+//!
 //! A question may stand twice with the same answer: the second line says nothing new, so two books of one node put behind each
 //! other are a book exactly where they don't contradict each other.
 //!
-//! Whether an answer names a port that the node has, a kind that its greeting has, or leaves a node asleep that got work, isn't
-//! asked here. Read `specs/Question.antt` and `specs/Answer.antt` first, then `specs/Book.antt`.
+//! That a node isn't left asleep by work, and whether its ports and kinds are there, is for whoever asks `sends` and `variables`:
+//! reading a book asks neither. Read `specs/Question.antt` and `specs/Answer.antt` first, then `specs/Book.antt`.
 #![tactic(auto)]
 
 pub mod answer;
+pub mod answer_fault;
 pub mod asking;
 pub mod book;
 pub mod fault;
@@ -26,5 +31,7 @@ pub mod laws;
 pub mod line;
 pub mod parts;
 pub mod question;
+pub mod sends;
+pub mod variables;
 mod words;
 pub mod writing;

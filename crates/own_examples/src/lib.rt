@@ -10,3 +10,5 @@ mod books;
 mod judged;
 #[cfg(test)]
 mod orders;
+#[cfg(test)]
+mod runs;

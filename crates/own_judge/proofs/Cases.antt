@@ -2,7 +2,7 @@
 use Rattle.std.proofs.Common.{◌≡◌, ℕ, Bool, true, false, ◌&&◌, cond, List, Option, Some, None, refl, sym, subst}
 use Rattle.std.specs.Bool.{Decides}
 use Rattle.std.proofs.lemmas.Bool.Decides.{Decides-and, Decides-like, not_from_Decides}
-use Rattle.own_answers.specs.declared.fault.AnswerFault.{AnswerFault}
+use Rattle.own_book.specs.declared.answer_fault.AnswerFault.{AnswerFault}
 use Rattle.own_book.specs.Answer.{Saying, gives_up, greets, opens, reacts, saying}
 use Rattle.own_book.specs.Entry.{Entry, told_in}
 use Rattle.own_book.specs.declared.question.Asked.TheVariants as asked
@@ -10,7 +10,8 @@ use Rattle.own_judge.proofs.Same.{sends_decide}
 use Rattle.own_judge.specs.Deed.{DeedState, agree, deed_in, is_same, same_sends}
 use Rattle.own_judge.specs.Laws.{Answers, AgreesRightly, AsksRightly, DiffersRightly, DoesTheSame, HasDiffered, HasReacted, IsIn}
 use Rattle.own_judge.specs.Look.{Asking, by_answer, by_first, by_opening, by_reaction, in_state, judged, look_by, reaction_fault}
-use Rattle.own_judge.specs.Question.{open_text, work_asked, work_text}
+use Rattle.own_book.specs.Asking.{open_text}
+use Rattle.own_judge.specs.Question.{work_asked, work_text}
 use Rattle.own_judge.specs.declared.look.Amiss.{Amiss}
 use Rattle.own_judge.specs.declared.look.Difference.{Difference}
 use Rattle.own_judge.specs.declared.look.Look.{Look}

@@ -4,3 +4,13 @@ pub mod Going
 pub mod Meaning
 pub mod lemmas
 pub mod Same
+pub mod Knowing
+pub mod Judging
+pub mod Searching
+pub mod OrdersGoing
+pub mod Greetings
+pub mod Levels
+pub mod Trying
+pub mod Looking
+pub mod Opening
+pub mod Noted

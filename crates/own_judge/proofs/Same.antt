@@ -10,7 +10,7 @@ use Rattle.std.proofs.lemmas.Bool.Decides.{Decides-and, Decides-by_and, Decides-
 use Rattle.std.proofs.lemmas.List.Elements.{filter-append}
 use Rattle.std.proofs.lemmas.Slice.Eq.{bytes_eq-Decides}
 use lib.Pointwise.{pointwise_decides}
-use Rattle.own_answers.specs.Sends.{SameAtPorts, Sending, at_port}
+use Rattle.own_book.specs.Sends.{SameAtPorts, Sending, at_port}
 use Rattle.own_judge.specs.Deed.{same_sending, same_sends}
 
 same_pair : (s t : Sending) → (s.0 ≡ t.0) × (s.1 ≡ t.1) → s ≡ t

@@ -8,8 +8,8 @@ use Rattle.ghs_node.specs.declared.delta.Fate.{Fate}
 use Rattle.ghs_node.specs.declared.delta.Fate.TheVariants.{Consumed, Requeued}
 use Rattle.ghs_node.specs.declared.message.Message.{Message}
 use Rattle.ghs_steps.specs.Words.{says}
-use Rattle.own_answers.specs.Sends.{Sending, at_port}
-use Rattle.own_answers.specs.Variables.{says_halted}
+use Rattle.own_book.specs.Sends.{Sending, at_port}
+use Rattle.own_book.specs.Variables.{says_halted}
 use Rattle.own_book.specs.Answer.{sends_in}
 use Rattle.peer_words.specs.Text.{message_text}
 

@@ -1,13 +1,14 @@
 -- What verdicts mean.
 use Rattle.std.specs.Prelude.{◌≡◌, ℕ, ◌<◌, Bool, length, slice_get, List, Some, None}
 use Rattle.ghs_graph.specs.Graph.{Shape}
-use Rattle.own_answers.specs.Sends.{SameAtPorts}
+use Rattle.own_book.specs.Sends.{SameAtPorts}
 use Rattle.own_book.specs.Answer.{opens, reacts, saying}
 use Rattle.own_book.specs.Entry.{Entry, told_in}
 use Rattle.own_book.specs.declared.question.Asked.TheVariants as asked
 use Rattle.own_judge.specs.Deed.{DeedState, deed_in}
 use Rattle.own_judge.specs.Look.{Asking, greeting_of, look_by}
-use Rattle.own_judge.specs.Question.{open_text, work_asked, work_text}
+use Rattle.own_book.specs.Asking.{open_text}
+use Rattle.own_judge.specs.Question.{work_asked, work_text}
 use Rattle.own_judge.specs.Verdict.{Agreed, Differed, Failed, looks, verdict}
 use Rattle.own_judge.specs.declared.look.Amiss.{Amiss}
 use Rattle.own_judge.specs.declared.look.Difference.{Difference}

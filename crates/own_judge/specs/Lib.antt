@@ -7,3 +7,9 @@ pub mod Question
 pub mod Report
 pub mod Status
 pub mod Verdict
+pub mod Joint
+pub mod Runs
+pub mod Orders
+pub mod Rows
+pub mod Noting
+pub mod Outcome

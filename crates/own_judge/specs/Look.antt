@@ -7,15 +7,16 @@ use Rattle.ghs_node.specs.NodeState.{degree}
 use Rattle.ghs_core.specs.NetState.{work_at}
 use Rattle.ghs_protocol.specs.Run.{net_after}
 use Rattle.ghs_steps.specs.Step.{delta_of}
-use Rattle.own_answers.specs.Sends.{sends_fault}
-use Rattle.own_answers.specs.Variables.{says_asleep}
-use Rattle.own_answers.specs.declared.fault.AnswerFault.{AnswerFault}
-use Rattle.own_answers.specs.declared.fault.AnswerFault.TheVariants as faults
+use Rattle.own_book.specs.Sends.{sends_fault}
+use Rattle.own_book.specs.Variables.{says_asleep}
+use Rattle.own_book.specs.declared.answer_fault.AnswerFault.{AnswerFault}
+use Rattle.own_book.specs.declared.answer_fault.AnswerFault.TheVariants as faults
 use Rattle.own_book.specs.Answer.{Saying, are_kinds, greets, opens, reacts, gives_up, saying, sends_in}
 use Rattle.own_book.specs.Entry.{Entry, told_in}
 use Rattle.own_book.specs.declared.question.Asked.TheVariants as asked
 use Rattle.own_judge.specs.Deed.{DeedState, agree, deed_in, deed_of}
-use Rattle.own_judge.specs.Question.{greeting_text, open_text, work_asked, work_text}
+use Rattle.own_book.specs.Asking.{open_text}
+use Rattle.own_judge.specs.Question.{greeting_text, work_asked, work_text}
 use Rattle.own_judge.specs.declared.look.Amiss.{Amiss}
 use Rattle.own_judge.specs.declared.look.Greeting.{Greeting}
 use Rattle.own_judge.specs.declared.look.Greeting.TheVariants as greeting

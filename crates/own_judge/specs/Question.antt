@@ -1,25 +1,16 @@
 -- What the book is asked.
-use Rattle.std.specs.Prelude.{ℕ, codes, decimal, ◌++◌, List}
-use Rattle.std.specs.List.{flat_map}
-use Rattle.ghs_graph.specs.declared.port.Port.{Port}
+use Rattle.std.specs.Prelude.{ℕ, codes, List}
 use Rattle.ghs_node.specs.declared.work.Work.{Work}
 use Rattle.ghs_node.specs.declared.work.Work.TheVariants.{Wake, Deliver}
 use Rattle.ghs_steps.specs.Words.{says}
 use Rattle.own_book.specs.Asking.{take_text, wake_text}
 use Rattle.own_book.specs.declared.question.Asked.{Asked}
 use Rattle.own_book.specs.declared.question.Asked.TheVariants as asked
-use Rattle.peer_words.specs.Text.{key_text, message_text}
+use Rattle.peer_words.specs.Text.{message_text}
 
 -- the name of the protocol, and its kinds of messages
 abbrev pub greeting_text : List ℕ
 greeting_text = codes "own 1"
-
-unfoldable pub key_behind_blank : Port → List ℕ
-key_behind_blank p = codes " " ++ key_text p.key
-
--- the first state of a node with these ports: `open NODE KEY ..`
-unfoldable pub open_text : ℕ → List Port → List ℕ
-open_text v ports = codes "open " ++ decimal v ++ flat_map key_behind_blank ports
 
 -- what a node does in this state with its work
 abbrev pub work_text : ℕ → Work → List ℕ → List ℕ

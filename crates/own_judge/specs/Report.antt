@@ -9,9 +9,9 @@ use Rattle.ghs_node.specs.RowName.{row_name}
 use Rattle.ghs_protocol.specs.Run.{net_after}
 use Rattle.ghs_steps.specs.Step.{delta_of}
 use Rattle.ghs_steps.specs.Words.{row_word, says}
-use Rattle.own_answers.specs.Sends.{Sending}
-use Rattle.own_answers.specs.declared.fault.AnswerFault.{AnswerFault}
-use Rattle.own_answers.specs.declared.fault.AnswerFault.TheVariants.{Garbled, GivesUp, NoKind, NoPort, StillAsleep}
+use Rattle.own_book.specs.Sends.{Sending}
+use Rattle.own_book.specs.declared.answer_fault.AnswerFault.{AnswerFault}
+use Rattle.own_book.specs.declared.answer_fault.AnswerFault.TheVariants.{Garbled, GivesUp, NoKind, NoPort, StillAsleep}
 use Rattle.own_book.specs.Entry.{Entry}
 use Rattle.own_judge.specs.Deed.{DeedState, deed_of}
 use Rattle.own_judge.specs.Verdict.{Agreed, Asks, Differed, Failed, Ungreeted, Verdict, end_of, verdict}

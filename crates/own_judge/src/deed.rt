@@ -1,5 +1,5 @@
 //! What a node does with its work, and whether two nodes do the same.
-ghost use Rattle.own_answers.specs.Sends.{Sending};
+ghost use Rattle.own_book.specs.Sends.{Sending};
 ghost use Rattle.own_book.specs.Answer.{are_sends};
 ghost use Rattle.own_judge.specs.Deed.{agree, deed_in, deed_of, is_deferred, is_same, same_sends, spelled};
 ghost use Rattle.std.specs.Prelude.{◌≡◌, IfOk, map, true};
@@ -7,8 +7,8 @@ ghost use Rattle.std.specs.Prelude.{◌≡◌, IfOk, map, true};
 use crate::question::spelled;
 use ghs_node::delta::{Delta, Fate};
 use ghs_node::message::Message;
-use own_answers::sends::{Posted, posts_of, same_at_ports};
-use own_answers::variables::says_halted;
+use own_book::sends::{Posted, posts_of, same_at_ports};
+use own_book::variables::says_halted;
 use std::alloc::{AllocError, Global};
 use std::marker::Model;
 

@@ -5,7 +5,7 @@ ghost use Rattle.std.specs.Prelude.{◌≡◌};
 
 use crate::deed::Deed;
 use crate::text::{Question, Text};
-use own_answers::fault::AnswerFault;
+use own_book::answer_fault::AnswerFault;
 
 /// What is known of the state of a node of the book.
 #[derive(Drop)]

@@ -1,43 +1,27 @@
 //! What the book is asked of a node.
-ghost use Rattle.own_judge.specs.Question.{key_behind_blank, open_text, work_asked, work_text};
+ghost use Rattle.own_book.specs.Asking.{open_text};
+ghost use Rattle.own_judge.specs.Question.{work_asked, work_text};
 ghost use Rattle.peer_words.specs.Text.{message_text};
 ghost use Rattle.ghs_steps.specs.Words.{says};
-ghost use Rattle.std.specs.List.{flat_map};
-ghost use Rattle.std.specs.Prelude.{◌≡◌, ◌++◌, IfOk};
+ghost use Rattle.std.specs.Prelude.{◌≡◌, IfOk};
 
 use crate::text::Question;
 use ghs_graph::port::Port;
-use ghs_lines::numbers::put_number;
 use ghs_node::message::Message;
 use ghs_node::work::Work;
 use ghs_steps::words::says;
-use own_book::asking::{put_take, put_wake};
+use own_book::asking::{put_open, put_take, put_wake};
 use own_book::question::Asked;
-use peer_words::text::{put_key, put_message};
+use peer_words::text::put_message;
 use std::alloc::{AllocError, Global};
 
 /// The question what the first state of a node with these ports is. Refusal: out of memory.
-#[tactic(auto, unfolding(crate::specs::Question::open_text))]
 pub fn open_question(alloc: Global, node: u32, ports: &[Port]) -> Result<Question, AllocError>
     ensures { IfOk result (λ question. question ≡ open_text node ports.now) }
 {
     let mut text = Vec::new(alloc);
-    text.extend_from_slice(b"open ")?;
-    put_number(&mut text, u128::from(node))?;
-    put_keys(&mut text, ports)?;
+    put_open(&mut text, node, ports)?;
     Ok(Question::of(text))
-}
-
-/// The keys of ports, a blank before each.
-#[tactic(auto, unfolding(crate::specs::Question::key_behind_blank))]
-fn put_keys(text: &mut Vec<u8>, ports: &[Port]) -> Result<(), AllocError>
-    ensures { IfOk result (λ _. text.new.items ≡ text.old.items ++ flat_map key_behind_blank ports.now) }
-{
-    for port in ports {
-        text.extend_from_slice(b" ")?;
-        put_key(text, port.key)?;
-    }
-    Ok(())
 }
 
 /// The question what a node in this state does with its work. Refusal: out of memory.
@@ -69,7 +53,7 @@ pub(crate) fn spelled(alloc: Global, message: &Message) -> Result<Vec<u8>, Alloc
     ensures { IfOk result (λ text. text.items ≡ message_text (says message.now)) }
 {
     let mut text = Vec::new(alloc);
-    put_message(&mut text, &says(message))?;
+    put_message(&mut text, &says(alloc, message)?)?;
     Ok(text)
 }
 

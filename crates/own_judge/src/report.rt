@@ -1,7 +1,7 @@
 //! The text of a verdict.
 ghost use Rattle.ghs_core.specs.NetState.{IsAnswer, IsLawful, net_of, work_at};
 ghost use Rattle.ghs_node.specs.Rows.{Row};
-ghost use Rattle.own_answers.specs.Sends.{Sending};
+ghost use Rattle.own_book.specs.Sends.{Sending};
 ghost use Rattle.own_judge.specs.Deed.{DeedState};
 ghost use Rattle.own_judge.specs.Report.{agreed_text, amiss_text, counted, deed_text, difference_text, event_text, exchange, deferral, fault_words, halt, labelled, row_text, send_text, sends_text, work_words};
 ghost use Rattle.own_judge.specs.Verdict.{line};
@@ -18,8 +18,8 @@ use ghs_node::delta::Delta;
 use ghs_node::row_name::row_of;
 use ghs_node::work::Work;
 use ghs_steps::words::{row_word, says};
-use own_answers::fault::AnswerFault;
-use own_answers::sends::Posted;
+use own_book::answer_fault::AnswerFault;
+use own_book::sends::Posted;
 use peer_network::event::{Event, node_of};
 use peer_steps::sent::port_at;
 use peer_words::text::put_message;
@@ -121,7 +121,8 @@ fn put_work(text: &mut Vec<u8>, graph: &Graph, v: u32, work: Work) -> Result<(),
         Work::Wake => text.extend_from_slice(b" wakes"),
         Work::Deliver { port, message } => {
             text.extend_from_slice(b" takes ")?;
-            put_message(text, &says(&message))?;
+            let saying = says(*text.allocator(), &message)?;
+            put_message(text, &saying)?;
             text.extend_from_slice(b" at port ")?;
             put_number(text, u128::from(port))?;
             text.extend_from_slice(b", from node ")?;

@@ -2,3 +2,6 @@
 mod Numbering
 mod Placing
 mod Paying
+pub mod Stopping
+pub mod Running
+mod Worked

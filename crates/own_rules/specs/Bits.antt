@@ -5,7 +5,7 @@ use Rattle.std.specs.Str.{bytes_eq}
 use Rattle.ghs_graph.specs.Graph.{Shape}
 use Rattle.ghs_bits.specs.Length.{key_width, width_of, widths_of}
 use Rattle.ghs_bits.specs.declared.widths.Widths.{Widths}
-use Rattle.own_answers.specs.Sends.{kind_in}
+use Rattle.own_book.specs.Sends.{kind_in}
 use Rattle.own_book.specs.Answer.{kinds_in, types_in}
 use Rattle.own_book.specs.Parts.{closed, cut_at}
 use Rattle.own_book.specs.declared.kind.ArgumentType.{ArgumentType}

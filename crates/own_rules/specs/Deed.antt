@@ -1,9 +1,9 @@
 -- What a node does by an answer of the book.
 use Rattle.std.specs.Prelude.{ℕ, ◌+◌, ◌-◌, Bool, cond, nat_le, length, List, Option, Some, None}
-use Rattle.own_answers.specs.Sends.{Sending, sends_fault}
-use Rattle.own_answers.specs.Variables.{says_asleep}
-use Rattle.own_answers.specs.declared.fault.AnswerFault.{AnswerFault}
-use Rattle.own_answers.specs.declared.fault.AnswerFault.TheVariants as faults
+use Rattle.own_book.specs.Sends.{Sending, sends_fault}
+use Rattle.own_book.specs.Variables.{says_asleep}
+use Rattle.own_book.specs.declared.answer_fault.AnswerFault.{AnswerFault}
+use Rattle.own_book.specs.declared.answer_fault.AnswerFault.TheVariants as faults
 use Rattle.own_book.specs.Answer.{Saying, reacts, gives_up, saying, sends_in}
 use Rattle.own_book.specs.Entry.{Entry}
 use Rattle.own_rules.specs.Questions.{answer_at, asked_for}

@@ -7,10 +7,10 @@ use Rattle.std.proofs.lemmas.Bool.{and_from, and_parts, cases_eq, cond-false, co
 use Rattle.std.proofs.lemmas.List.{length-map}
 use Rattle.std.proofs.lemmas.Nat.{mul-le}
 use Rattle.std.proofs.lemmas.Option.{same_Some}
-use Rattle.own_answers.specs.Sends.{Sending, kind_in, names_kind, sends_fault}
-use Rattle.own_answers.specs.Variables.{says_asleep}
-use Rattle.own_answers.specs.declared.fault.AnswerFault.{AnswerFault}
-use Rattle.own_answers.specs.declared.fault.AnswerFault.TheVariants.{Garbled, GivesUp, NoKind, NoPort, StillAsleep}
+use Rattle.own_book.specs.Sends.{Sending, kind_in, names_kind, sends_fault}
+use Rattle.own_book.specs.Variables.{says_asleep}
+use Rattle.own_book.specs.declared.answer_fault.AnswerFault.{AnswerFault}
+use Rattle.own_book.specs.declared.answer_fault.AnswerFault.TheVariants.{Garbled, GivesUp, NoKind, NoPort, StillAsleep}
 use Rattle.own_book.specs.Answer.{Saying, greets, opens, reacts, gives_up, saying, sends_in}
 use Rattle.own_book.specs.Entry.{Entry, told_in}
 use Rattle.own_book.specs.Parts.{cut_at}
@@ -30,7 +30,8 @@ use Rattle.peer_machine.proofs.lemmas.Budget.{sends_within}
 use Rattle.peer_machine.proofs.lemmas.Runs.{run_keeps}
 use Rattle.peer_machine.proofs.lemmas.Sends.{node_here, node_there}
 use Rattle.own_rules.specs.Deed.{Deed, cost, deed_by, deed_of, deed_said, paid, paid_by, reaction_fault, stops, unless_faulty}
-use Rattle.own_rules.specs.Questions.{answer_at, asked_for, open_text}
+use Rattle.own_book.specs.Asking.{open_text}
+use Rattle.own_rules.specs.Questions.{answer_at, asked_for}
 use Rattle.own_rules.specs.Rules.{deferred, lookup_at, message_in, next, numbered, opened, opened_by, reacted, rules_of, sends_by, sent, sleeps, state_by, waits_by}
 use Rattle.own_rules.specs.Texts.{Text, kinds_of, names_of, text_at, texts_of}
 use Rattle.own_rules.specs.declared.node.Lookup.{Lookup}

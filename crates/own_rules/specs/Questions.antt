@@ -1,25 +1,15 @@
 -- What the book is asked, and which entry answers.
-use Rattle.std.specs.Prelude.{ℕ, Bool, false, codes, decimal, find, position, ◌==◌, ◌&&◌, ◌++◌, List, Option, Some, None}
-use Rattle.std.specs.List.{flat_map}
+use Rattle.std.specs.Prelude.{ℕ, Bool, false, find, position, ◌==◌, ◌&&◌, List, Option, Some, None}
 use Rattle.std.specs.Option.{option_map}
 use Rattle.std.specs.Str.{bytes_eq}
-use Rattle.ghs_graph.specs.declared.port.Port.{Port}
 use Rattle.own_book.specs.Asking.{take_text, wake_text}
 use Rattle.own_book.specs.Entry.{Entry}
 use Rattle.own_book.specs.Query.{Asking, asking_of, takes, wakes}
 use Rattle.own_book.specs.declared.question.Asked.{Asked}
 use Rattle.own_book.specs.declared.question.Asked.TheVariants as asked
-use Rattle.peer_words.specs.Text.{key_text}
 use Rattle.own_rules.specs.Texts.{Text, text_at}
 use Rattle.own_rules.specs.declared.node.Lookup.{Lookup}
 use Rattle.own_rules.specs.declared.node.Lookup.TheVariants.{Wake, Take}
-
-unfoldable pub key_behind_blank : Port → Text
-key_behind_blank p = codes " " ++ key_text p.key
-
--- the first state of a node with these ports: `open NODE KEY ..`
-unfoldable pub open_text : ℕ → List Port → Text
-open_text v ports = codes "open " ++ decimal v ++ flat_map key_behind_blank ports
 
 -- the question of a lookup
 abbrev pub lookup_text : List Text → Lookup → Text

@@ -1,9 +1,9 @@
 -- The rules of a book: a node does what the book answers.
 use Rattle.std.specs.Prelude.{ℕ, Bool, false, length, map, List, [], Option, Some, None}
 use Rattle.ghs_graph.specs.declared.port.Port.{Port}
-use Rattle.own_answers.specs.Sends.{Sending}
-use Rattle.own_answers.specs.Variables.{says_asleep, says_halted}
-use Rattle.own_answers.specs.declared.fault.AnswerFault.TheVariants as faults
+use Rattle.own_book.specs.Sends.{Sending}
+use Rattle.own_book.specs.Variables.{says_asleep, says_halted}
+use Rattle.own_book.specs.declared.answer_fault.AnswerFault.TheVariants as faults
 use Rattle.own_book.specs.Answer.{Saying, opens, gives_up, saying}
 use Rattle.own_book.specs.Entry.{Entry, told_in}
 use Rattle.own_book.specs.declared.question.Asked.TheVariants as asked
@@ -12,7 +12,7 @@ use Rattle.peer_machine.specs.declared.work.Work.TheVariants as work
 use Rattle.peer_machine.specs.Rules.{Rules, Outcome, Outgoing}
 use Rattle.own_rules.specs.Bits.{bits_of}
 use Rattle.own_rules.specs.Deed.{Deed, deed_of, goes_on, stops}
-use Rattle.own_rules.specs.Questions.{open_text}
+use Rattle.own_book.specs.Asking.{open_text}
 use Rattle.own_rules.specs.Texts.{Text, kind_among, kinds_many, kinds_of, number_in, text_at, texts_of}
 use Rattle.own_rules.specs.declared.node.Lookup.{Lookup}
 use Rattle.own_rules.specs.declared.node.Lookup.TheVariants as lookup

@@ -2,7 +2,7 @@
 use Rattle.std.specs.Prelude.{ℕ, codes, fold, map, List, [], ◌∷◌, ◌++◌, ◌-◌, suc, length, Option, Some, None, Result, Ok, Err, position, unwrap_or, slice_index_or, if◌then◌else◌}
 use Rattle.std.specs.List.{flat_map, list_any, position_or_len}
 use Rattle.std.specs.Str.{bytes_eq}
-use Rattle.own_answers.specs.Sends.{kind_in}
+use Rattle.own_book.specs.Sends.{kind_in}
 use Rattle.own_book.specs.Answer.{Saying, greets, opens, reacts, gives_up, kinds_in, saying, sends_in}
 use Rattle.own_book.specs.Entry.{Entry, told_in}
 use Rattle.own_book.specs.Parts.{cut_at}

@@ -1,5 +1,5 @@
 //! What a node does by an answer of the book.
-ghost use Rattle.own_answers.specs.declared.fault.AnswerFault.TheVariants as faults;
+ghost use Rattle.own_book.specs.declared.answer_fault.AnswerFault.TheVariants as faults;
 ghost use Rattle.own_book.specs.Answer.{IsReadable, are_kinds, are_sends, said_by, sends_in};
 ghost use Rattle.own_rules.specs.Deed.{cost, deed_said as deed_of_saying, left_then, paid as paid_from, reaction_fault as fault_of_reaction};
 ghost use Rattle.own_rules.specs.Done.{AreSends, done_by};
@@ -7,10 +7,10 @@ ghost use Rattle.std.specs.Option.{option_map};
 ghost use Rattle.std.specs.Prelude.{IfSome, length, true, ◌≡◌};
 
 use crate::node::Reason;
-use own_answers::fault::AnswerFault;
-use own_answers::sends::sends_fault;
-use own_answers::variables::says_asleep;
 use own_book::answer::{Answer, next_sent};
+use own_book::answer_fault::AnswerFault;
+use own_book::sends::sends_fault;
+use own_book::variables::says_asleep;
 
 /// What a node does: it goes on in this state, and may then send and defer so many messages more; or it stops. Its texts are
 /// those of the answer.

@@ -1,4 +1,4 @@
-//! The rules of a user's book, as a protocol: each node does what the book answers.
+//! The rules of a user's book, as a protocol: each node does what the book answers; and its runs.
 //!
 //! A node's state is a text of the book, by its number; so is a message. At an event the node is asked as `own_book` spells it,
 //! and the book's first answer to just that says its next state, whether it defers the message, and what it sends. A node to
@@ -9,11 +9,15 @@
 //! Proved: whatever the book says, each lawful event has a rule, no run sends more than so many messages for each node, who has
 //! got work is awake, and each run comes to an end (`law_rules`). `Rulebook` is a book with its texts numbered and its answers
 //! found by numbers; contracts see the entries of the book alone. `Told` is an `impl Protocol` whose rules are those of the book
-//! that a type names (`Chosen`), which a call picks when a run begins.
+//! that a type names (`Chosen`), which a call picks when a run begins: `run_book` gives the events that a seed's schedule picks
+//! of a graph by the rules of this very book, to the end or to the last turn (`IsRunBy`), and the code that runs it knows no book;
+//! it also names the nodes that have stopped then (`stops`), and the questions that the book lacks (`lacking`). `Told` is `Spoken`:
+//! a message has its kind and all that stands in its brackets, a node the variables of its state and the words of `marks`, and the
+//! row says what the book did.
 //!
 //! Not claimed: that the book is the answers of a program. Questions are compared field by field: that the entry that answers is
-//! the one whose question has the very text that is asked, isn't proved here. Read `specs/Rules.antt` and `specs/Deed.antt`
-//! first. Next: `own_runs`, runs by a book.
+//! the one whose question has the very text that is asked, isn't proved here. Read `specs/Rules.antt` and `specs/Deed.antt` first,
+//! then `specs/Run.antt`, `specs/Stops.antt` and `specs/Words.antt`.
 #![tactic(auto)]
 
 mod deed;
@@ -22,4 +26,7 @@ pub mod node;
 mod places;
 pub mod protocol;
 pub mod rulebook;
+pub mod run;
+mod spoken;
+pub mod stops;
 mod texts;

@@ -1,5 +1,5 @@
 //! A node of a book, its messages, and how it changes.
-use own_answers::fault::AnswerFault;
+use own_book::answer_fault::AnswerFault;
 
 /// A message, by the number of its text in the book.
 #[derive(Clone, Copy, Debug, PartialEq, Eq)]

@@ -181,7 +181,7 @@ impl<'a, J: Chosen> Protocol for Told<'a, J> {
 }
 
 /// What a node is asked in a state when it gets some work.
-fn lookup_at(node: u32, state: usize, work: Work<Message>) -> Lookup
+pub(crate) fn lookup_at(node: u32, state: usize, work: Work<Message>) -> Lookup
     ensures { result ≡ lookup_of_work node state work }
 {
     match work {

@@ -1,30 +1,30 @@
 //! A book, ready to run.
-ghost use Rattle.own_answers.specs.Sends.{kind_in};
+ghost use Rattle.own_book.specs.Sends.{kind_in};
 ghost use Rattle.own_book.specs.Answer.{are_kinds, are_sends, saying, sends_in};
 ghost use Rattle.own_book.specs.Entry.{told_in};
 ghost use Rattle.own_book.specs.Parts.{cut_at};
 ghost use Rattle.own_book.specs.declared.question.Asked.TheVariants.{Opening};
 ghost use Rattle.own_rules.specs.Deed.{deed_of};
 ghost use Rattle.own_rules.specs.Done.{AreSends, done_by};
-ghost use Rattle.own_rules.specs.Questions.{answer_at, asked_for as asks_for, key_behind_blank, open_text};
+ghost use Rattle.own_book.specs.Asking.{open_text};
+ghost use Rattle.own_rules.specs.Questions.{answer_at, asked_for as asks_for};
 ghost use Rattle.own_rules.specs.Rules.{numbered, opened, opened_by, stopped as stopped_at};
 ghost use Rattle.own_rules.specs.Texts.{kind_among, kinds_many, kinds_of, number_in, text_at, texts_of as texts_of_book};
-ghost use Rattle.std.specs.List.{flat_map};
-ghost use Rattle.std.specs.Prelude.{IfNone, IfOk, IfSome, None, Some, true, ◌++◌, ◌≡◌};
+ghost use Rattle.own_rules.specs.Words.{kind_name as kind_called};
+ghost use Rattle.std.specs.Prelude.{IfNone, IfOk, IfSome, None, Some, codes, true, ◌≡◌};
 
 use crate::deed::{Done, done_by_answer};
 use crate::node::{Lookup, Message, Reason, State, Stop};
 use crate::places::{Places, places_of};
 use crate::texts::{Texts, names_of, texts_of};
 use ghs_graph::port::Port;
-use ghs_lines::numbers::put_number;
-use own_answers::fault::AnswerFault;
-use own_answers::variables::says_asleep;
 use own_book::answer::{Answer, next_sent, read_answer};
+use own_book::answer_fault::AnswerFault;
+use own_book::asking::put_open;
 use own_book::book::Book;
 use own_book::parts::cut;
 use own_book::question::Asked;
-use peer_words::text::put_key;
+use own_book::variables::says_asleep;
 use std::alloc::{AllocError, Global};
 use std::marker::Model;
 
@@ -80,6 +80,14 @@ impl Rulebook {
         ensures { result.now ≡ text_at (texts_of_book self.now) number }
     {
         self.texts.text(number)
+    }
+
+    /// What the book says to the question after the greeting, with the number of its line.
+    pub(crate) fn greeting(&self) -> Option<(u64, &[u8])>
+        ensures some { IfSome result (λ told. told_in self.now (codes "own 1") ≡ Some (told.0, told.1.now)) }
+        ensures none { IfNone result (told_in self.now (codes "own 1") ≡ None) }
+    {
+        self.book.told(b"own 1")
     }
 
     /// What the book answers to a question.
@@ -144,7 +152,8 @@ impl Rulebook {
     ) -> Result<State, AllocError>
         ensures { IfOk result (λ state. state ≡ opened self.now most (told_in self.now (open_text v ports.now))) }
     {
-        let question = open_question(alloc, v, ports)?;
+        let mut question = Vec::new(alloc);
+        put_open(&mut question, v, ports)?;
         match self.book.told(&question) {
             None => Ok(stopped(Reason::Unanswered)),
             Some((_, answer)) => Ok(self.opened_by(most, answer)),
@@ -178,9 +187,27 @@ impl Rulebook {
     pub(crate) fn kind(&self, message: Message) -> usize
         ensures { result ≡ kind_among (kinds_of self.now) (text_at (texts_of_book self.now) message.text) }
     {
-        match self.names.place(kind_name(self.text(message.text))) {
+        self.kind_of(self.text(message.text))
+    }
+
+    /// The kind of the message with this text.
+    pub(crate) fn kind_of(&self, text: &[u8]) -> usize
+        ensures { result ≡ kind_among (kinds_of self.now) text.now }
+    {
+        match self.names.place(kind_name(text)) {
             Some(kind) => kind,
             None => 0,
+        }
+    }
+
+    /// The name of a kind, by its number; a dash where there is none.
+    pub(crate) fn kind_name(&self, kind: usize) -> &[u8]
+        ensures { result.now ≡ kind_called self.now kind }
+    {
+        if kind < self.names.len() {
+            self.names.text(kind)
+        } else {
+            b"-"
         }
     }
 }
@@ -208,30 +235,6 @@ fn asked_for(lookup: Lookup) -> Asked
             state: _,
         } => Asked::Take,
     }
-}
-
-/// The question what the first state of a node with these ports is. Refusal: out of memory.
-#[tactic(auto, unfolding(crate::specs::Questions::open_text))]
-pub fn open_question(alloc: Global, v: u32, ports: &[Port]) -> Result<Vec<u8>, AllocError>
-    ensures { IfOk result (λ question. question.items ≡ open_text v ports.now) }
-{
-    let mut text = Vec::new(alloc);
-    text.extend_from_slice(b"open ")?;
-    put_number(&mut text, u128::from(v))?;
-    put_keys(&mut text, ports)?;
-    Ok(text)
-}
-
-/// The keys of ports, a blank before each.
-#[tactic(auto, unfolding(crate::specs::Questions::key_behind_blank))]
-fn put_keys(text: &mut Vec<u8>, ports: &[Port]) -> Result<(), AllocError>
-    ensures { IfOk result (λ _. text.new.items ≡ text.old.items ++ flat_map key_behind_blank ports.now) }
-{
-    for port in ports {
-        text.extend_from_slice(b" ")?;
-        put_key(text, port.key)?;
-    }
-    Ok(())
 }
 
 /// The kinds of messages that the greeting of a book names; none where it has no greeting.

@@ -4,7 +4,7 @@
 //! Proved: `Chains` keep the numbers that `specs/Chains.antt` defines when a node takes a message, and consumes or defers it
 //! (`hear`), and when it sends (`send`); the greatest of a node's is `longest`. They look at no message.
 //!
-//! Which events a run has and what its nodes send, a caller says. Next: `ghs_chain`, where they follow runs of GHS, and
+//! Which events a run has and what its nodes send, a caller says. Next: `ghs_following`, where they follow runs of GHS, and
 //! `peer_lengths`, which says them of a run of any protocol.
 #![tactic(auto)]
 

@@ -9,7 +9,7 @@ use ghs_test_graphs::graphs::TRIANGLE;
 use peer_machine::ends::Ends;
 use peer_machine::event::Event;
 use peer_network::wake_set::WakeSet;
-use peer_rounds::run::run_rounds;
+use peer_picking::rounds_run::run_rounds;
 use peer_runs::fault::RunFault;
 use peer_runs::world::World;
 use peer_schedule::schedule::Schedule;

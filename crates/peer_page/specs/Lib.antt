@@ -4,3 +4,4 @@ pub mod Head
 pub mod Links
 pub mod Commas
 pub mod Counts
+pub mod Page

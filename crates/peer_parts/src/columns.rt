@@ -12,12 +12,12 @@ use std::alloc::{AllocError, Global};
 /// A column: its name, and the place of its count among those of a part; none, where the protocol has no such kind.
 #[derive(Drop)]
 pub struct Column {
-    pub name: Word,
+    pub name: Word<'static>,
     pub place: Option<usize>,
 }
 
 /// The names of the kinds of a protocol's messages, in their order. Refusal: out of memory.
-pub fn names_of<P: Swept>(alloc: Global) -> Result<Vec<Word>, AllocError>
+pub fn names_of<P: Swept>(alloc: Global) -> Result<Vec<Word<'static>>, AllocError>
     ensures { IfOk result (λ names. names.items ≡ names_of P.about) }
 {
     let mut names = Vec::new(alloc);
@@ -37,7 +37,7 @@ pub fn names_of<P: Swept>(alloc: Global) -> Result<Vec<Word>, AllocError>
 pub fn columns_by<P: Swept>(
     alloc: Global,
     by: By,
-    names: &[Word],
+    names: &[Word<'static>],
 ) -> Result<Vec<Column>, AllocError>
     ensures { IfOk result (λ columns. columns.items ≡ columns_by by P.about names.now) }
 {
@@ -48,7 +48,7 @@ pub fn columns_by<P: Swept>(
 }
 
 /// A column for each name of a kind.
-fn kind_columns<P: Swept>(alloc: Global, names: &[Word]) -> Result<Vec<Column>, AllocError>
+fn kind_columns<P: Swept>(alloc: Global, names: &[Word<'static>]) -> Result<Vec<Column>, AllocError>
     ensures { IfOk result (λ columns. columns.items ≡ map (column_of P.about) names.now) }
 {
     let mut columns = Vec::new(alloc);

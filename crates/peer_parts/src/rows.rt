@@ -7,8 +7,8 @@ ghost use Rattle.peer_parts.specs.Kept.{AreRowParts, IsPlaceOf, IsRowOf, with_us
 use peer_machine::event::Event;
 use peer_net::net::Net;
 use peer_runs::follower::Follower;
-use peer_steps::moment::moment_at;
-use peer_words::spoken::Spoken;
+use peer_steps::moment::row_at;
+use peer_words::fixed_words::FixedWords;
 use peer_words::value::Word;
 use std::alloc::{AllocError, Global};
 use std::marker::Model;
@@ -16,7 +16,7 @@ use std::marker::Model;
 /// A row, and how often it has applied.
 #[derive(Drop)]
 pub struct RowCount {
-    pub row: Word,
+    pub row: Word<'static>,
     pub times: u64,
 }
 
@@ -74,7 +74,7 @@ pub struct Seen {
 }
 
 /// They follow the events of their run.
-impl<P: Spoken> Follower<P> for RowParts {
+impl<P: FixedWords> Follower<P> for RowParts {
     type Seen = Seen;
 
     ghost is_of = { λ g es p. AreRowParts P.rules P.words g es p };
@@ -86,7 +86,7 @@ impl<P: Spoken> Follower<P> for RowParts {
             return Err(AllocError);
         }
         Ok(Seen {
-            row: moment_at(net, event).row.letters(),
+            row: row_at(net, event).letters(),
         })
     }
 

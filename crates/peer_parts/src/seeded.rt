@@ -14,7 +14,7 @@ use ghs_graph::graph::Graph;
 use peer_machine::ends::Ends;
 use peer_report::run::run_followed_by_seed;
 use peer_sweep::setup::Setup;
-use peer_words::spoken::Spoken;
+use peer_words::fixed_words::FixedWords;
 use std::alloc::{AllocError, Global};
 
 /// Puts the lines of the parts of the run that a seed picks behind a text, each behind the same front; by level there are none.
@@ -25,7 +25,7 @@ use std::alloc::{AllocError, Global};
 /// put_seed::<Echo>(alloc, &mut text, Form::Text, b"", By::Rule, &columns, &graph, setup, 7)?;
 /// // the lines of seed 7 of `ghs sweep --protocol echo --by rule`
 /// ```
-pub fn put_seed<P: Ends + Spoken>(
+pub fn put_seed<P: Ends + FixedWords>(
     alloc: Global,
     text: &mut Vec<u8>,
     form: Form,
@@ -45,7 +45,7 @@ pub fn put_seed<P: Ends + Spoken>(
     }
 }
 
-fn put_by_node<P: Ends + Spoken>(
+fn put_by_node<P: Ends + FixedWords>(
     alloc: Global,
     text: &mut Vec<u8>,
     form: Form,
@@ -71,7 +71,7 @@ fn put_by_node<P: Ends + Spoken>(
     put_nodes(text, form, front, seed, columns, parts.all())
 }
 
-fn put_by_row<P: Ends + Spoken>(
+fn put_by_row<P: Ends + FixedWords>(
     alloc: Global,
     text: &mut Vec<u8>,
     form: Form,

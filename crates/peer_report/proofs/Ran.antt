@@ -18,9 +18,9 @@ use Rattle.peer_runs.specs.Lawful.{lawful_events}
 use Rattle.peer_runs.specs.Picks.{IsPicked}
 use Rattle.peer_runs.specs.Runs.{HasRun, IsAtLimit}
 use Rattle.peer_runs.specs.WorldState.{WorldState, ready_events, wakers}
-use Rattle.peer_lifo.specs.Picks.{IsPickedLast}
-use Rattle.peer_lifo.specs.Runs as lifo
-use Rattle.peer_rounds.specs.Runs as rounds
+use Rattle.peer_picking.specs.LifoPicks.{IsPickedLast}
+use Rattle.peer_picking.specs.LifoRuns as lifo
+use Rattle.peer_picking.specs.Runs as rounds
 use Rattle.peer_report.specs.Runs.{HasRunBy, IsPickedBy, IsRunBy, IsStopped, IsWholeRun}
 
 -- a run from an opening is one by the kind that made it

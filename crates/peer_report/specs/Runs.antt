@@ -11,8 +11,8 @@ use Rattle.peer_network.specs.Wakes.{may_wake}
 use Rattle.peer_machine.specs.Rules.{Rules}
 use Rattle.peer_machine.specs.Net.{Net}
 use Rattle.peer_machine.specs.Run.{IsRunUnder, net_after}
-use Rattle.peer_lifo.specs.Picks.{IsPickedLast}
-use Rattle.peer_rounds.specs.Picks.{IsPickedByRounds}
+use Rattle.peer_picking.specs.LifoPicks.{IsPickedLast}
+use Rattle.peer_picking.specs.Picks.{IsPickedByRounds}
 use Rattle.peer_runs.specs.Lawful.{lawful_events}
 use Rattle.peer_runs.specs.Picks.{IsPicked}
 use Rattle.peer_runs.specs.WorldState.{WorldState, wakers}

@@ -40,21 +40,27 @@ pub(crate) fn put_account<P: Spoken>(text: &mut Vec<u8>, net: &Net<P>) -> Result
     ensures account { IfOk result (λ _. text.new.items ≡ text.old.items ++ account_lines P.rules P.words.kind P.bound net.now.graph (net_of P.rules net.now)) }
     ensures within { IfOk result (λ _. in_all P.rules (net_of P.rules net.now).sent ≤ P.bound net.now.graph) }
 {
-    let most = P::bound_of(net.setting(), net.graph());
+    let setting = net.setting();
+    let most = P::bound_of(setting, net.graph());
     let sent = net.ledger().sent;
-    put_kinds::<P>(text, sent)?;
+    put_kinds::<P>(text, setting, sent)?;
     put_sends(text, in_total(sent), most)?;
     Ok(())
 }
 
 /// The line of the messages of each kind.
-fn put_kinds<P: Spoken>(text: &mut Vec<u8>, sent: &[u64]) -> Result<(), AllocError>
-    requires { length sent.now ≡ P.rules.kinds }
+fn put_kinds<P: Spoken>(
+    text: &mut Vec<u8>,
+    setting: P::Setting,
+    sent: &[u64],
+) -> Result<(), AllocError>
+    requires setting { P.goes_by setting }
+    requires kinds { length sent.now ≡ P.rules.kinds }
     ensures { IfOk result (λ _. text.new.items ≡ text.old.items ++ kinds_line P.rules.kinds P.words.kind (λ k. slice_index sent.now k)) }
 {
     text.extend_from_slice(b"m")?;
     for k in 0..sent.len() {
-        put_count(text, P::kind_name(k).letters(), sent[k])?;
+        put_count(text, P::kind_name(&setting, k).letters(), sent[k])?;
     }
     text.extend_from_slice(b"\n")?;
     Ok(())

@@ -4,9 +4,9 @@ use Rattle.std.specs.List.{flat_map}
 use Rattle.peer_network.specs.declared.event.Event.{Event}
 use Rattle.peer_network.specs.Events.{event_node}
 use Rattle.peer_words.specs.declared.value.Saying.{Saying}
-use Rattle.peer_words.specs.Json.{member, message_members, next, null, number_or_null, pair, quoted, value_json}
+use Rattle.peer_words.specs.Json.{escaped, member, message_members, next, null, number_or_null, pair, quoted, value_json}
 use Rattle.peer_steps.specs.declared.change.Change.{Change}
-use Rattle.peer_steps.specs.declared.change.Change.TheVariants.{Mark, Variable}
+use Rattle.peer_steps.specs.declared.change.Change.TheVariants.{Mark, Variable, Gone}
 use Rattle.peer_steps.specs.declared.moment.Moment.{Moment}
 use Rattle.peer_steps.specs.declared.sent.Sent.{Sent}
 use Rattle.peer_steps.specs.StepLine.{fate_word}
@@ -34,11 +34,13 @@ row_members m r waits = next (codes "row") (quoted r) ++ next (codes "fate") (fa
 abbrev pub is_mark : Change → Bool
 is_mark (Mark p w) = true
 is_mark (Variable s) = false
+is_mark (Gone n) = false
 
--- a port and its mark, or a member with a variable's new value
+-- a port and its mark, or a member with a variable's new value, if it has one
 unfoldable pub change_json : Change → List ℕ
-change_json (Mark p w) = pair p w
+change_json (Mark p w) = pair p (escaped w)
 change_json (Variable s) = member [] s.name (value_json s.value)
+change_json (Gone n) = member [] n null
 
 -- of the changes those of marks, or those of variables
 abbrev pub is_of : Bool → Change → Bool

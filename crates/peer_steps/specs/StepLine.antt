@@ -6,7 +6,7 @@ use Rattle.peer_network.specs.Events.{event_node}
 use Rattle.peer_words.specs.declared.value.Saying.{Saying}
 use Rattle.peer_words.specs.Text.{dash, message_text, number_or_dash, value_text}
 use Rattle.peer_steps.specs.declared.change.Change.{Change}
-use Rattle.peer_steps.specs.declared.change.Change.TheVariants.{Mark, Variable}
+use Rattle.peer_steps.specs.declared.change.Change.TheVariants.{Mark, Variable, Gone}
 use Rattle.peer_steps.specs.declared.moment.Moment.{Moment}
 use Rattle.peer_steps.specs.declared.sent.Sent.{Sent}
 use Rattle.peer_steps.specs.Told.{event_port}
@@ -18,10 +18,12 @@ field t = t ++ codes " "
 abbrev pub change_name : Change → List ℕ
 change_name (Mark p w) = codes "mark." ++ decimal p
 change_name (Variable s) = s.name
+change_name (Gone n) = n
 
 abbrev pub change_value : Change → List ℕ
 change_value (Mark p w) = w
 change_value (Variable s) = value_text s.value
+change_value (Gone n) = dash
 
 -- a mark or a variable, and its new value
 unfoldable pub change_text : Change → List ℕ

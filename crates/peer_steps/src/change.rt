@@ -1,10 +1,13 @@
 //! What differs at a node after an event.
 use peer_words::value::{Said, Word};
 
-/// A mark or a variable of a node that differs from what it was, with its new value.
+/// A mark or a variable of a node that differs from what it was.
 #[derive(Drop)]
-pub enum Change {
-    /// A port, and its mark.
-    Mark(u32, Word),
-    Variable(Said),
+pub enum Change<'s> {
+    /// A port, and its new mark.
+    Mark(u32, Word<'s>),
+    /// A variable, with its new value.
+    Variable(Said<'s>),
+    /// The name of a variable that the node has no more.
+    Gone(Word<'s>),
 }

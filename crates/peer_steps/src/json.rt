@@ -1,16 +1,17 @@
 //! A step as a line of JSON.
 ghost use Rattle.std.specs.Prelude.{◌≡◌, ◌++◌, ◌||◌, [], codes, filter, if◌then◌else◌, IfOk};
-ghost use Rattle.peer_words.specs.Json.{next};
+ghost use Rattle.peer_words.specs.Json.{escaped, next, pair};
 ghost use Rattle.peer_steps.specs.Json.{change_json, change_members, comma, fate_json, is_mark, is_of, json_of, listed, place_members, row_members, send_json, sends_member, way_members, work_members};
 
 use crate::change::Change;
 use crate::line::fate_word;
 use crate::moment::{Moment, port_of};
 use crate::sent::Sent;
+use ghs_lines::numbers::put_number;
 use peer_network::event::{Event, node_of};
 use peer_words::json::{
     put_literal_member, put_member, put_message_members, put_number_member, put_optional_member,
-    put_pair, put_word_member,
+    put_word, put_word_member,
 };
 use peer_words::value::{Saying, Word};
 use std::alloc::AllocError;
@@ -138,9 +139,22 @@ fn put_change(text: &mut Vec<u8>, change: &Change) -> Result<(), AllocError>
     ensures { IfOk result (λ _. text.new.items ≡ text.old.items ++ change_json change.now) }
 {
     match change {
-        Change::Mark(port, mark) => put_pair(text, *port, mark.letters()),
+        Change::Mark(port, mark) => put_mark(text, *port, mark.letters()),
         Change::Variable(said) => put_member(text, b"", said),
+        Change::Gone(name) => put_literal_member(text, b"", name.letters(), b"null"),
     }
+}
+
+/// A port, and its mark as a string.
+#[tactic(auto, unfolding(peer_words::specs::Json::pair))]
+fn put_mark(text: &mut Vec<u8>, port: u32, mark: &[u8]) -> Result<(), AllocError>
+    ensures { IfOk result (λ _. text.new.items ≡ text.old.items ++ pair port (escaped mark.now)) }
+{
+    text.extend_from_slice(b"[")?;
+    put_number(text, u128::from(port))?;
+    text.extend_from_slice(b",")?;
+    put_word(text, mark)?;
+    text.extend_from_slice(b"]")
 }
 
 /// The messages that go out, with a comma between each and the next.

@@ -193,6 +193,7 @@ fn put_change_name(text: &mut Vec<u8>, change: &Change) -> Result<(), AllocError
             put_number(text, u128::from(*port))
         }
         Change::Variable(said) => text.extend_from_slice(said.name.letters()),
+        Change::Gone(name) => text.extend_from_slice(name.letters()),
     }
 }
 
@@ -202,6 +203,7 @@ fn put_change_value(text: &mut Vec<u8>, change: &Change) -> Result<(), AllocErro
     match change {
         Change::Mark(_, mark) => text.extend_from_slice(mark.letters()),
         Change::Variable(said) => put_value(text, &said.value),
+        Change::Gone(_) => text.extend_from_slice(b"-"),
     }
 }
 

@@ -12,45 +12,66 @@ use peer_machine::event::Event;
 use peer_machine::work::Work;
 use peer_net::net::Net;
 use peer_network::event::node_of;
+use peer_words::fixed_words::FixedWords;
 use peer_words::spoken::Spoken;
 use peer_words::value::{Saying, Word};
+use std::alloc::{AllocError, Global};
 
 /// An event of a run, and what a line says of it before it happens.
 #[derive(Drop)]
-pub struct Moment {
+pub struct Moment<'s> {
     /// The event's number, counted from 1.
     pub number: u64,
     pub event: Event,
     /// The node at the other end of the port at which the message came in; none for a wake.
     pub far: Option<u32>,
     /// The message that the event takes; none for a wake.
-    pub message: Option<Saying>,
+    pub message: Option<Saying<'s>>,
     /// The row of the rules by which the node reacts.
-    pub row: Word,
+    pub row: Word<'s>,
     /// Whether the node defers the message.
     pub waits: bool,
 }
 
-/// The moment of an event that is lawful now.
+/// The moment of an event that is lawful now. Refusal: out of memory.
 ///
 /// ```text
 /// let net = Net::<Boruvka>::open(alloc, (), graph)?;
-/// let moment = moment_at(&net, Event::Wake(1));
+/// let moment = moment_at(alloc, &(), &net, Event::Wake(1))?;
 /// // its number is 1, it takes no message, and its row is Wakes
 /// ```
-pub fn moment_at<P: Spoken>(net: &Net<P>, event: Event) -> Moment
-    requires { IsLawful P.rules net.now event }
-    ensures { result ≡ moment_of P.rules P.words net.now.graph net.now.trace event }
+pub fn moment_at<'s, P: Spoken>(
+    alloc: Global,
+    setting: &'s P::Setting,
+    net: &Net<P>,
+    event: Event,
+) -> Result<Moment<'s>, AllocError>
+    requires setting { P.goes_by setting.now }
+    requires lawful { IsLawful P.rules net.now event }
+    ensures { IfOk result (λ moment. moment ≡ moment_of P.rules P.words net.now.graph net.now.trace event) }
 {
     let work = work_of(net, event);
-    Moment {
+    Ok(Moment {
         number: net.trace().len() as u64 + 1,
         event,
         far: far_end(net.graph(), event),
-        message: message_of::<P>(&work),
-        row: P::row(net.node(node_of(event)), &work),
+        message: message_of::<P>(alloc, setting, &work)?,
+        row: P::row(setting, net.node(node_of(event)), &work),
         waits: net.defers(event),
-    }
+    })
+}
+
+/// The row by which the node of a lawful event reacts, of a protocol that has its words before it runs.
+///
+/// ```text
+/// let row = row_at(&net, Event::Wake(1));
+/// // Wakes, at the opening of Borůvka in step: a Word<'static>
+/// ```
+pub fn row_at<P: FixedWords>(net: &Net<P>, event: Event) -> Word<'static>
+    requires { IsLawful P.rules net.now event }
+    ensures { result ≡ (moment_of P.rules P.words net.now.graph net.now.trace event).row }
+{
+    P::fixed_row(net.node(node_of(event)), &work_of(net, event))
 }
 
 /// What a lawful event brings to its node.
@@ -69,12 +90,17 @@ pub(crate) fn work_of<P: Spoken>(net: &Net<P>, event: Event) -> Work<P::Message>
 }
 
 /// The message that some work brings, in words.
-fn message_of<P: Spoken>(work: &Work<P::Message>) -> Option<Saying>
-    ensures { result ≡ message_of P.words work.now }
+fn message_of<'s, P: Spoken>(
+    alloc: Global,
+    setting: &'s P::Setting,
+    work: &Work<P::Message>,
+) -> Result<Option<Saying<'s>>, AllocError>
+    requires { P.goes_by setting.now }
+    ensures { IfOk result (λ message. message ≡ message_of P.words work.now) }
 {
     match work {
-        Work::Wake => None,
-        Work::Deliver { port: _, message } => Some(P::says(message)),
+        Work::Wake => Ok(None),
+        Work::Deliver { port: _, message } => Ok(Some(P::says(alloc, setting, message)?)),
     }
 }
 

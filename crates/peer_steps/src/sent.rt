@@ -12,44 +12,54 @@ use std::alloc::{AllocError, Global};
 
 /// A message that a node sends: the port on which it goes out, and the node and its port at which it waits then.
 #[derive(Drop)]
-pub struct Sent {
+pub struct Sent<'s> {
     pub port: u32,
     pub to: u32,
     pub at: u32,
-    pub message: Saying,
+    pub message: Saying<'s>,
 }
 
 /// The messages that node `v` sends, each with the place where it will wait. Refusal: out of memory.
-pub fn sent_by<P: Spoken>(
+pub fn sent_by<'s, P: Spoken>(
     alloc: Global,
+    setting: &'s P::Setting,
     graph: &Graph,
     v: u32,
     sends: &[(u32, P::Message)],
-) -> Result<Vec<Sent>, AllocError>
+) -> Result<Vec<Sent<'s>>, AllocError>
+    requires setting { P.goes_by setting.now }
     requires low { 1 ≤ v }
     requires high { v ≤ graph.now.nodes }
     ensures { IfOk result (λ list. list.items ≡ map (sent_by P.words graph.now v) sends.now) }
 {
     let mut list = Vec::with_capacity(alloc, sends.len())?;
     for (port, message) in sends {
-        list.push(sent_on::<P>(graph, v, *port, message))?;
+        list.push(sent_on::<P>(alloc, setting, graph, v, *port, message)?)?;
     }
     Ok(list)
 }
 
 /// One of them.
-fn sent_on<P: Spoken>(graph: &Graph, v: u32, port: u32, message: &P::Message) -> Sent
+fn sent_on<'s, P: Spoken>(
+    alloc: Global,
+    setting: &'s P::Setting,
+    graph: &Graph,
+    v: u32,
+    port: u32,
+    message: &P::Message,
+) -> Result<Sent<'s>, AllocError>
+    requires setting { P.goes_by setting.now }
     requires low { 1 ≤ v }
     requires high { v ≤ graph.now.nodes }
-    ensures { result ≡ sent_by P.words graph.now v (port, message.now) }
+    ensures { IfOk result (λ sent. sent ≡ sent_by P.words graph.now v (port, message.now)) }
 {
     let end = port_at(graph, v, port);
-    Sent {
+    Ok(Sent {
         port,
         to: end.far,
         at: end.far_port,
-        message: P::says(message),
-    }
+        message: P::says(alloc, setting, message)?,
+    })
 }
 
 /// A port of node `v`; what is no port leads to node 0.

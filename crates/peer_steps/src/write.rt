@@ -31,9 +31,9 @@ use std::alloc::{AllocError, Global};
 
 /// What an event has done.
 #[derive(Drop)]
-struct Effects {
-    changes: Vec<Change>,
-    sends: Vec<Sent>,
+struct Effects<'s> {
+    changes: Vec<Change<'s>>,
+    sends: Vec<Sent<'s>>,
 }
 
 /// Writes a line for each chosen event of a run, in order, in the form that is asked for. The lines go out by portions,
@@ -138,8 +138,9 @@ fn put_step<P: Spoken>(
     ensures trace { OnOk result (net.new.trace ≡ net.old.trace ++ event ∷ []) }
     ensures text { OnOk result (text.new.items ≡ text.old.items ++ line_by P.rules P.words form net.old.graph net.old.trace event) }
 {
-    let moment = moment_at::<P>(net, event);
-    let effects = make::<P>(alloc, net, event)?;
+    let setting = net.setting();
+    let moment = moment_at::<P>(alloc, &setting, net, event)?;
+    let effects = make::<P>(alloc, &setting, net, event)?;
     put_line(text, form, &moment, &effects, total::<P>(net))?;
     Ok(())
 }
@@ -163,8 +164,14 @@ fn put_line(
 }
 
 /// The event happens. Answers what it has done. Refusal: out of memory.
-fn make<P: Spoken>(alloc: Global, net: &mut Net<P>, event: Event) -> Result<Effects, AllocError>
-    requires { IsLawful P.rules net.old event }
+fn make<'s, P: Spoken>(
+    alloc: Global,
+    setting: &'s P::Setting,
+    net: &mut Net<P>,
+    event: Event,
+) -> Result<Effects<'s>, AllocError>
+    requires setting { P.goes_by setting.now }
+    requires lawful { IsLawful P.rules net.old event }
     ensures graph { OnOk result (net.new.graph ≡ net.old.graph) }
     ensures trace { OnOk result (net.new.trace ≡ net.old.trace ++ event ∷ []) }
     ensures changes { IfOk result (λ e. e.changes.items ≡ changes_by P.rules P.words net.old.graph net.old.trace event) }
@@ -173,12 +180,12 @@ fn make<P: Spoken>(alloc: Global, net: &mut Net<P>, event: Event) -> Result<Effe
     let v = node_of(event);
     // Read for its clauses: the net is that of a run, so there is a rule.
     let _ = net.trace();
-    let answer = P::react(alloc, net.setting(), net.node(v), work_of::<P>(net, event))?;
-    let sends = sent_by::<P>(alloc, net.graph(), v, answer.sends.as_slice())?;
+    let answer = P::react(alloc, *setting, net.node(v), work_of::<P>(net, event))?;
+    let sends = sent_by::<P>(alloc, setting, net.graph(), v, answer.sends.as_slice())?;
     let ports = degree(net.graph(), v);
-    let before = note_before::<P>(alloc, net.node(v), &answer.change, ports)?;
+    let before = note_before::<P>(alloc, setting, net.node(v), &answer.change, ports)?;
     net.play(alloc, event)?;
-    let changes = changes_since::<P>(alloc, &before, net.node(v))?;
+    let changes = changes_since::<P>(alloc, setting, &before, net.node(v))?;
     Ok(Effects { changes, sends })
 }
 

@@ -5,7 +5,7 @@ use peer_words::value::Word;
 /// A column: its name, what is measured in it, and whether that has one value in all runs of a graph that have ended.
 #[derive(Drop)]
 pub struct Column {
-    pub name: Word,
+    pub name: Word<'static>,
     pub measure: Measure,
     pub is_fixed: bool,
 }

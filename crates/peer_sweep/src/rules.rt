@@ -20,7 +20,7 @@ use peer_net::net::Net;
 use peer_report::branches::branches;
 use peer_report::ended::net_ended;
 use peer_report::run::run_followed_by_seed;
-use peer_words::spoken::Spoken;
+use peer_words::fixed_words::FixedWords;
 use peer_words::value::Word;
 use std::alloc::{AllocError, Global};
 use std::marker::PhantomData;
@@ -30,14 +30,14 @@ pub struct ByRules<P> {
     protocol: PhantomData<P>,
 }
 
-impl<P: FindsTree + Spoken + Measured> Swept for ByRules<P> {
+impl<P: FindsTree + FixedWords + Measured> Swept for ByRules<P> {
     ghost use Rattle.peer_sweep.specs.Runs.{AreFiguresOf, about_rules};
 
     ghost about = { about_rules P.rules P.words };
 
     ghost are_figures_of = { AreFiguresOf P.rules P.bound P.is_branch P.has_ended };
 
-    fn name() -> Word {
+    fn name() -> Word<'static> {
         P::name()
     }
 
@@ -45,8 +45,8 @@ impl<P: FindsTree + Spoken + Measured> Swept for ByRules<P> {
         P::kinds(P::setting())
     }
 
-    fn kind_name(kind: usize) -> Word {
-        P::kind_name(kind)
+    fn kind_name(kind: usize) -> Word<'static> {
+        P::fixed_kind_name(kind)
     }
 
     fn is_fixed(measure: Measure) -> bool {
@@ -77,7 +77,7 @@ fn is_bound(measure: Measure) -> bool
 
 /// The figures of the run that a seed picks, from the opening of a graph to its end or to its last turn. Refusal: out of
 /// memory.
-fn seeded<P: FindsTree + Spoken + Measured>(
+fn seeded<P: FindsTree + FixedWords + Measured>(
     alloc: Global,
     graph: &Graph,
     setup: Setup,

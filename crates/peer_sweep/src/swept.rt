@@ -29,7 +29,7 @@ pub trait Swept {
     ghost are_figures_of: { Shape → Setup → ℕ → Figures → Type 0 };
 
     /// Its name.
-    fn name() -> Word
+    fn name() -> Word<'static>
         ensures { result ≡ about.name };
 
     /// How many kinds of messages it has.
@@ -37,7 +37,7 @@ pub trait Swept {
         ensures { result ≡ about.kinds };
 
     /// The name of a kind of messages, by its number, from 0 on.
-    fn kind_name(kind: usize) -> Word
+    fn kind_name(kind: usize) -> Word<'static>
         requires { kind < about.kinds }
         ensures { result ≡ about.kind kind };
 

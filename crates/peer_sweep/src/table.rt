@@ -9,10 +9,11 @@ use peer_words::value::Word;
 use std::alloc::{AllocError, Global};
 use std::marker::Model;
 
-/// How the lines of a protocol's runs are laid out: its name, and their columns.
+/// How the lines of a protocol's runs are laid out: its name, and their columns. The words are those that the program itself
+/// has: of protocols that are known only when it runs there is no table.
 #[derive(Drop)]
 pub struct Table {
-    protocol: Word,
+    protocol: Word<'static>,
     columns: Vec<Column>,
 }
 
@@ -31,7 +32,7 @@ impl Table {
     /// let table = Table::of::<ByRules<Boruvka>>(alloc, &[Word::of(b"connect"), Word::of(b"test")])?;
     /// // `test` has a column, which stays empty: Borůvka in step sends none
     /// ```
-    pub fn of<P: Swept>(alloc: Global, kinds: &[Word]) -> Result<Table, AllocError>
+    pub fn of<P: Swept>(alloc: Global, kinds: &[Word<'static>]) -> Result<Table, AllocError>
         ensures { IfOk result (λ t. t ≡ layout_of P.about kinds.now) }
     {
         Ok(Table {
@@ -56,7 +57,7 @@ impl Table {
 }
 
 /// The columns of a protocol's lines.
-fn columns_of<P: Swept>(alloc: Global, kinds: &[Word]) -> Result<Vec<Column>, AllocError>
+fn columns_of<P: Swept>(alloc: Global, kinds: &[Word<'static>]) -> Result<Vec<Column>, AllocError>
     ensures { IfOk result (λ columns. columns.items ≡ columns_of P.about kinds.now) }
 {
     let mut columns = Vec::new(alloc);
@@ -80,7 +81,10 @@ fn push_first<P: Swept>(columns: &mut Vec<Column>) -> Result<(), AllocError>
 }
 
 /// Appends the kinds of messages.
-fn push_kinds<P: Swept>(columns: &mut Vec<Column>, kinds: &[Word]) -> Result<(), AllocError>
+fn push_kinds<P: Swept>(
+    columns: &mut Vec<Column>,
+    kinds: &[Word<'static>],
+) -> Result<(), AllocError>
     ensures { IfOk result (λ _. columns.new.items ≡ columns.old.items ++ map (kind_column P.about) kinds.now) }
 {
     for name in kinds {
@@ -133,8 +137,12 @@ fn push_lengths<P: Swept>(columns: &mut Vec<Column>) -> Result<(), AllocError>
 }
 
 /// Appends a column.
-fn push<P: Swept>(columns: &mut Vec<Column>, name: Word, measure: Measure) -> Result<(), AllocError>
-    ensures { IfOk result (λ _. columns.new.items ≡ columns.old.items ++ column P.about name measure ∷ []) }
+fn push<P: Swept>(
+    columns: &mut Vec<Column>,
+    name: Word<'static>,
+    measure: Measure,
+) -> Result<(), AllocError>
+    ensures { IfOk result (λ _. columns.new.items ≡ columns.old.items ++ column P.about name.entry measure ∷ []) }
 {
     columns.push(Column {
         name,

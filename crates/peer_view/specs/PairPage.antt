@@ -1,7 +1,7 @@
 -- The page of two runs.
 use Rattle.std.specs.Prelude.{◌≡◌, ℕ, List}
 use Rattle.ghs_graph.specs.Graph.{Shape}
-use Rattle.ghs_page.specs.Page.{pair_text}
+use Rattle.peer_page.specs.Page.{pair_text}
 use Rattle.peer_network.specs.declared.event.Event.{Event}
 use Rattle.peer_machine.specs.Rules.{Rules}
 use Rattle.peer_words.specs.Looks.{Looks}

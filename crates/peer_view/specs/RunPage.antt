@@ -1,7 +1,7 @@
 -- The page of a run.
 use Rattle.std.specs.Prelude.{◌≡◌, ℕ, List, length}
 use Rattle.ghs_graph.specs.Graph.{Shape}
-use Rattle.ghs_page.specs.Page.{page_text}
+use Rattle.peer_page.specs.Page.{page_text}
 use Rattle.peer_network.specs.declared.event.Event.{Event}
 use Rattle.peer_machine.specs.Rules.{Rules}
 use Rattle.peer_page.specs.Limits.{events_to}

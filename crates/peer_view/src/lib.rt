@@ -7,7 +7,7 @@
 //! those of its steps (`Words`), and the rest of what the page is told stands in the protocol's `Looks`.
 //!
 //! At most 2,000 nodes and 100,000 events that are shown (`peer_page`). What a browser makes of a page is tested and not proved
-//! (`ghs_page`).
+//! (`peer_page`).
 #![tactic(auto)]
 
 pub mod data;

@@ -8,10 +8,10 @@ ghost use Rattle.peer_view.specs.PairPage.{IsPairPage};
 
 use crate::data::data_of;
 use ghs_graph::graph::Graph;
-use ghs_page::page;
 use peer_machine::event::Event;
 use peer_page::fault::PageFault;
 use peer_page::limits::{first_events, is_too_large};
+use peer_page::page;
 use peer_words::viewed::Viewed;
 use std::alloc::Global;
 

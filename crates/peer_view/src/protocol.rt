@@ -18,11 +18,11 @@ pub fn put_protocol<P: Viewed>(text: &mut Vec<u8>, setting: P::Setting) -> Resul
     requires { P.goes_by setting }
     ensures { IfOk result (λ _. text.new.items ≡ text.old.items ++ protocol_line P.rules P.words P.looks) }
 {
-    put_title(text, P::name().letters(), P::title())?;
+    put_title(text, P::name().letters(), P::title(&setting))?;
     text.extend_from_slice(b",\"kinds\":[")?;
     put_kinds::<P>(text, setting)?;
     text.extend_from_slice(b"],")?;
-    text.extend_from_slice(P::look())?;
+    text.extend_from_slice(P::look(&setting))?;
     text.extend_from_slice(b"}\n")
 }
 
@@ -41,17 +41,23 @@ fn put_kinds<P: Viewed>(text: &mut Vec<u8>, setting: P::Setting) -> Result<(), A
 {
     for kind in 0..P::kinds(setting) {
         put_comma(text, kind)?;
-        put_kind::<P>(text, kind)?;
+        put_kind::<P>(text, setting, kind)?;
     }
     Ok(())
 }
 
 /// One kind of messages, by its number.
-fn put_kind<P: Viewed>(text: &mut Vec<u8>, kind: usize) -> Result<(), AllocError>
-    requires { kind < P.rules.kinds }
+fn put_kind<P: Viewed>(
+    text: &mut Vec<u8>,
+    setting: P::Setting,
+    kind: usize,
+) -> Result<(), AllocError>
+    requires setting { P.goes_by setting }
+    requires known { kind < P.rules.kinds }
     ensures { IfOk result (λ _. text.new.items ≡ text.old.items ++ kind_json P.words P.looks kind) }
 {
-    put_whole(text, P::kind_name(kind).letters(), P::kind_look(kind))
+    let name = P::kind_name(&setting, kind);
+    put_whole(text, name.letters(), P::kind_look(&setting, kind))
 }
 
 /// The name of a kind and what the page is told of it.

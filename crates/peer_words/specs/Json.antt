@@ -1,19 +1,25 @@
 -- Values, and messages that carry them, as members of JSON.
-use Rattle.std.specs.Prelude.{ℕ, Bool, true, false, Option, Some, None, List, [], ◌∷◌, ◌++◌, codes, decimal}
+use Rattle.std.specs.Prelude.{ℕ, Bool, true, false, ◌==◌, if◌then◌else◌, Option, Some, None, List, [], ◌∷◌, ◌++◌, codes, decimal}
 use Rattle.std.specs.List.{flat_map}
 use Rattle.ghs_graph.specs.declared.key.Key.{Key}
 use Rattle.peer_words.specs.declared.value.Said.{Said}
 use Rattle.peer_words.specs.declared.value.Value.{Value}
 use Rattle.peer_words.specs.declared.value.Value.TheVariants.{Number, Port, Link, Best, Word, Flag}
 use Rattle.peer_words.specs.declared.value.Saying.{Saying}
-use Rattle.peer_words.specs.Items.{items_of}
 use Rattle.peer_words.specs.Text.{key_text}
 
 -- where there is no value
 abbrev pub null : List ℕ
 null = codes "null"
 
--- a string; none of ours needs an escape
+-- a letter within a string: a quote and a backslash stand behind a backslash
+abbrev pub escape : ℕ → List ℕ
+escape b = if b == 34 then (92 ∷ 34 ∷ []) else (if b == 92 then (92 ∷ 92 ∷ []) else (b ∷ []))
+
+unfoldable pub escaped : List ℕ → List ℕ
+escaped t = flat_map escape t
+
+-- a string whose letters need no escape, or have it
 unfoldable pub quoted : List ℕ → List ℕ
 quoted t = codes "\"" ++ t ++ codes "\""
 
@@ -50,7 +56,7 @@ value_json (Number n) = decimal n
 value_json (Port p) = number_or_null p
 value_json (Link k) = key_or_null k
 value_json (Best b) = best_or_null b
-value_json (Word w) = quoted w
+value_json (Word w) = quoted (escaped w)
 value_json (Flag b) = truth b
 
 -- a value behind a comma and its name
@@ -59,4 +65,4 @@ said_member s = next s.name (value_json s.value)
 
 -- the kind, behind what stands before it, and what the message carries
 unfoldable pub message_members : List ℕ → Saying → List ℕ
-message_members lead s = member lead (codes "kind") (quoted s.kind) ++ flat_map said_member (items_of s.carried)
+message_members lead s = member lead (codes "kind") (quoted s.kind) ++ flat_map said_member s.carried

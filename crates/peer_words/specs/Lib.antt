@@ -1,5 +1,4 @@
 -- To be believed: contracts cite what stands here, and what it is made of.
-pub mod Items
 pub mod Text
 pub mod Json
 pub mod Same

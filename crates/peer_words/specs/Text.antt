@@ -6,7 +6,6 @@ use Rattle.peer_words.specs.declared.value.Said.{Said}
 use Rattle.peer_words.specs.declared.value.Value.{Value}
 use Rattle.peer_words.specs.declared.value.Value.TheVariants.{Number, Port, Link, Best, Word, Flag}
 use Rattle.peer_words.specs.declared.value.Saying.{Saying}
-use Rattle.peer_words.specs.Items.{items_of}
 
 -- where there is no value
 abbrev pub dash : List ℕ
@@ -51,4 +50,4 @@ in_brackets (x ∷ xs) = codes "(" ++ value_text x.value ++ flat_map behind_comm
 
 -- `KIND(VALUE,VALUE)`
 unfoldable pub message_text : Saying → List ℕ
-message_text s = s.kind ++ in_brackets (items_of s.carried)
+message_text s = s.kind ++ in_brackets s.carried

@@ -1,5 +1,5 @@
 -- The words of a protocol.
-use Rattle.std.specs.Prelude.{◌≡◌, ℕ, List, map}
+use Rattle.std.specs.Prelude.{ℕ, List}
 use Rattle.peer_machine.specs.declared.work.Work.{Work}
 use Rattle.peer_words.specs.declared.value.Said.{Said}
 use Rattle.peer_words.specs.declared.value.Saying.{Saying}
@@ -14,11 +14,3 @@ pub record Words (S M : Type 0) : Type 0 where
   pub row : S → Work M → List ℕ
   pub variables : S → List Said
   pub mark : S → ℕ → List ℕ
-
--- the names of variables, in order
-abbrev pub names_of : List Said → List (List ℕ)
-names_of xs = map (λ (x : Said). x.name) xs
-
--- all nodes have variables of the same names, in the same order: so those at one place are one variable
-abbrev pub HaveSameNames : {S M : Type 0} → Words S M → Type 0
-HaveSameNames {S} w = (m n : S) → names_of (w.variables m) ≡ names_of (w.variables n)

@@ -1,8 +1,7 @@
 //! Values, and messages that carry them, as JSON.
 ghost use Rattle.std.specs.Prelude.{◌≡◌, ◌++◌, codes, decimal, IfOk};
 ghost use Rattle.std.specs.List.{flat_map};
-ghost use Rattle.peer_words.specs.Items.{items_of};
-ghost use Rattle.peer_words.specs.Json.{best_or_null, key_or_null, member, message_members, number_or_null, pair, quoted, said_member, truth, value_json};
+ghost use Rattle.peer_words.specs.Json.{best_or_null, escape, escaped, key_or_null, member, message_members, number_or_null, pair, quoted, said_member, truth, value_json};
 ghost use Rattle.peer_words.specs.Text.{key_text};
 
 use crate::text::put_key;
@@ -20,7 +19,7 @@ pub fn put_json_value(text: &mut Vec<u8>, value: &Value) -> Result<(), AllocErro
         Value::Port(port) => put_number_or_null(text, *port),
         Value::Link(key) => put_key_or_null(text, *key),
         Value::Best(best) => put_best(text, *best),
-        Value::Word(word) => put_quoted(text, word.letters()),
+        Value::Word(word) => put_word(text, word.letters()),
         Value::Flag(flag) => put_truth(text, *flag),
     }
 }
@@ -32,6 +31,44 @@ pub fn put_said(text: &mut Vec<u8>, said: &Said) -> Result<(), AllocError>
 {
     put_name(text, b",", said.name.letters())?;
     put_json_value(text, &said.value)
+}
+
+/// Appends a word as a string.
+///
+/// ```text
+/// put_word(&mut text, b"a\"b")?;
+/// // "a\"b": a quote and a backslash stand behind a backslash
+/// ```
+#[tactic(auto, unfolding(crate::specs::Json::quoted))]
+pub fn put_word(text: &mut Vec<u8>, word: &[u8]) -> Result<(), AllocError>
+    ensures { IfOk result (λ _. text.new.items ≡ text.old.items ++ quoted (escaped word.now)) }
+{
+    text.extend_from_slice(b"\"")?;
+    put_escaped(text, word)?;
+    text.extend_from_slice(b"\"")
+}
+
+#[tactic(auto, unfolding(crate::specs::Json::escaped))]
+fn put_escaped(text: &mut Vec<u8>, word: &[u8]) -> Result<(), AllocError>
+    ensures { IfOk result (λ _. text.new.items ≡ text.old.items ++ escaped word.now) }
+{
+    for letter in word {
+        put_letter(text, *letter)?;
+    }
+    Ok(())
+}
+
+fn put_letter(text: &mut Vec<u8>, letter: u8) -> Result<(), AllocError>
+    ensures { IfOk result (λ _. text.new.items ≡ text.old.items ++ escape letter) }
+{
+    if letter == b'"' {
+        text.extend_from_slice(b"\\\"")
+    } else if letter == b'\\' {
+        text.extend_from_slice(b"\\\\")
+    } else {
+        text.push(letter)?;
+        Ok(())
+    }
 }
 
 /// What stands before a member, and its name.

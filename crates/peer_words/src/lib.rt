@@ -3,12 +3,14 @@
 //!
 //! Proved: each `put_` function appends exactly the text of its value, and takes nothing away. `Spoken` ties a protocol's words
 //! to its rules: a message's kind and values, the row by which a node reacts, a node's variables and marks; by its law
-//! `keeps_marks` a change tells which ports may get other marks, and by `names_variables` all nodes have the same variables.
-//! `Viewed` adds what the page of a run is told of its protocol.
+//! `keeps_marks` a change tells which ports may get other marks. The words are lent by the protocol's setting, so they may be
+//! known only when it runs; those of `FixedWords` are there before. `Viewed` adds what the page of a run is told of its protocol.
 //!
-//! A word has no quote and no backslash, so no text of JSON needs an escape. Next: `peer_steps`, the line of an event.
+//! A value that is a word may have any printable ASCII, and JSON gets it with its escapes. Names have no quote and no backslash,
+//! so they need none. Next: `peer_steps`, the line of an event.
 #![tactic(auto)]
 
+pub mod fixed_words;
 pub mod json;
 pub mod same;
 pub mod spoken;

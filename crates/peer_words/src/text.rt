@@ -1,7 +1,6 @@
 //! Values, and messages that carry them, as text.
 ghost use Rattle.std.specs.Prelude.{◌≡◌, ◌++◌, IfOk};
 ghost use Rattle.std.specs.List.{flat_map};
-ghost use Rattle.peer_words.specs.Items.{items_of};
 ghost use Rattle.peer_words.specs.Text.{behind_comma, best_text, in_brackets, key_or_dash, key_text, message_text, number_or_dash, value_text, yes_or_no};
 
 use crate::value::{Said, Saying, Value};
@@ -80,7 +79,7 @@ fn put_flag(text: &mut Vec<u8>, flag: bool) -> Result<(), AllocError>
 /// Appends a message: its kind, and behind it what it carries.
 ///
 /// ```text
-/// put_message(&mut text, &Saying::new(b"changeroot", Carried::Nothing))?;
+/// put_message(&mut text, &Saying::bare(alloc, b"changeroot"))?;
 /// // changeroot
 /// ```
 #[tactic(auto, unfolding(crate::specs::Text::message_text))]

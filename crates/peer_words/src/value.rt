@@ -1,17 +1,17 @@
 //! Values that a text says.
-ghost use Rattle.std.specs.Prelude.{◌≡◌};
-ghost use Rattle.peer_words.specs.Items.{items_of};
+ghost use Rattle.std.specs.Prelude.{◌≡◌, ◌++◌, ◌∷◌, [], IfOk};
 
 use ghs_graph::key::Key;
+use std::alloc::{AllocError, Global};
 use std::marker::Model;
 
-/// A word of a protocol. It has no quote and no backslash.
+/// A word of a protocol: printable ASCII. Names have no quote and no backslash.
 #[derive(Drop)]
-pub struct Word {
-    letters: &'static [u8],
+pub struct Word<'s> {
+    letters: &'s [u8],
 }
 
-impl Model for Word {
+impl<'s> Model for Word<'s> {
     ghost use Rattle.std.specs.Prelude.{ℕ, List};
 
     ghost Value = { List ℕ };
@@ -19,22 +19,22 @@ impl Model for Word {
     ghost view = { λ w. w.letters.now };
 }
 
-impl Word {
+impl<'s> Word<'s> {
     /// The word that these letters make.
-    pub fn of(letters: &'static [u8]) -> Word
+    pub fn of(letters: &'s [u8]) -> Word<'s>
         ensures { result ≡ letters.now }
     {
         Word { letters }
     }
 
-    pub fn letters(&self) -> &'static [u8]
+    pub fn letters(&self) -> &'s [u8]
         ensures { result.now ≡ self.now }
     {
         self.letters
     }
 
     /// The same word.
-    pub fn again(&self) -> Word
+    pub fn again(&self) -> Word<'s>
         ensures { result ≡ self.now }
     {
         Word::of(self.letters)
@@ -43,20 +43,20 @@ impl Word {
 
 /// What a text says of a variable, or of what a message carries.
 #[derive(Drop)]
-pub enum Value {
+pub enum Value<'s> {
     Number(u64),
     /// A port; none where the variable has none.
     Port(Option<u32>),
     Link(Option<Key>),
     /// A port, and the key heard of there.
     Best(Option<(u32, Key)>),
-    Word(Word),
+    Word(Word<'s>),
     Flag(bool),
 }
 
-impl Value {
+impl<'s> Value<'s> {
     /// The same value.
-    pub fn again(&self) -> Value
+    pub fn again(&self) -> Value<'s>
         ensures { result ≡ self.now }
     {
         match self {
@@ -72,14 +72,14 @@ impl Value {
 
 /// A value with its name.
 #[derive(Drop)]
-pub struct Said {
-    pub name: Word,
-    pub value: Value,
+pub struct Said<'s> {
+    pub name: Word<'s>,
+    pub value: Value<'s>,
 }
 
-impl Said {
-    pub fn new(name: &'static [u8], value: Value) -> Said
-        ensures { result ≡ record { name = name.now; value = value } }
+impl<'s> Said<'s> {
+    pub fn new(name: &'s [u8], value: Value<'s>) -> Said<'s>
+        ensures { result ≡ record { name = name.now; value = value.entry } }
     {
         Said {
             name: Word::of(name),
@@ -88,7 +88,7 @@ impl Said {
     }
 
     /// The same once more.
-    pub fn again(&self) -> Said
+    pub fn again(&self) -> Said<'s>
         ensures { result ≡ self.now }
     {
         Said {
@@ -98,43 +98,75 @@ impl Said {
     }
 }
 
-/// What a message carries.
+/// What a message carries: any number of values with their names. Contracts see their list.
 #[derive(Drop)]
-pub enum Carried {
-    Nothing,
-    One([Said; 1]),
-    Two([Said; 2]),
-    Three([Said; 3]),
+pub struct Carried<'s> {
+    items: Vec<Said<'s>>,
 }
 
-impl Carried {
-    /// The values with their names, in the order of the text.
-    pub fn as_slice(&self) -> &[Said]
-        ensures { result.now ≡ items_of self.now }
+impl<'s> Model for Carried<'s> {
+    ghost use Rattle.std.specs.Prelude.{List};
+    ghost use Rattle.peer_words.specs.declared.value.Said.{Said};
+
+    ghost Value = { List Said };
+
+    ghost view = { λ c. c.items.items };
+}
+
+impl<'s> Carried<'s> {
+    /// No value. Takes no memory.
+    pub fn new(alloc: Global) -> Carried<'s>
+        ensures { result ≡ [] }
     {
-        match self {
-            Carried::Nothing => &[],
-            Carried::One(items) => items,
-            Carried::Two(items) => items,
-            Carried::Three(items) => items,
+        Carried {
+            items: Vec::new(alloc),
         }
+    }
+
+    /// Appends a value. Refusal: out of memory.
+    pub fn push(&mut self, said: Said<'s>) -> Result<(), AllocError>
+        ensures { IfOk result (λ _. self.new ≡ self.old ++ said.entry ∷ []) }
+    {
+        self.items.push(said)?;
+        Ok(())
+    }
+
+    /// The values with their names, in the order of the text.
+    pub fn as_slice(&self) -> &[Said<'s>]
+        ensures { result.now ≡ self.now }
+    {
+        &self.items
     }
 }
 
 /// A message in words: the name of its kind, and what it carries.
 #[derive(Drop)]
-pub struct Saying {
-    pub kind: Word,
-    pub carried: Carried,
+pub struct Saying<'s> {
+    pub kind: Word<'s>,
+    pub carried: Carried<'s>,
 }
 
-impl Saying {
-    pub fn new(kind: &'static [u8], carried: Carried) -> Saying
-        ensures { result ≡ record { kind = kind.now; carried = carried } }
+impl<'s> Saying<'s> {
+    /// A message of this kind that carries nothing. Takes no memory.
+    ///
+    /// ```text
+    /// Saying::bare(alloc, b"test").with(Said::new(b"level", Value::Number(1)))?;
+    /// // test(1)
+    /// ```
+    pub fn bare(alloc: Global, kind: &'s [u8]) -> Saying<'s>
+        ensures { result ≡ record { kind = kind.now; carried = [] } }
     {
         Saying {
             kind: Word::of(kind),
-            carried,
+            carried: Carried::new(alloc),
         }
+    }
+
+    /// The message with one value more. Refusal: out of memory.
+    pub fn with(mut self, said: Said<'s>) -> Result<Saying<'s>, AllocError>
+        ensures { IfOk result (λ s. s ≡ record { kind = self.entry.kind; carried = self.entry.carried ++ said.entry ∷ [] }) }
+    {
+        self.carried.push(said)?;
+        Ok(self)
     }
 }

@@ -15,15 +15,18 @@ pub trait Viewed: Spoken {
     ghost looks: { Looks };
 
     /// The title of a page, as HTML without a quote.
-    fn title() -> &'static [u8]
+    fn title<'s>(setting: &'s Self::Setting) -> &'s [u8]
+        requires { Self.goes_by setting.now }
         ensures { result.now ≡ looks.title };
 
     /// What a page is told of a kind of messages, by its number, from 0 on: members of JSON.
-    fn kind_look(kind: usize) -> &'static [u8]
-        requires { kind < Self.rules.kinds }
+    fn kind_look<'s>(setting: &'s Self::Setting, kind: usize) -> &'s [u8]
+        requires setting { Self.goes_by setting.now }
+        requires known { kind < Self.rules.kinds }
         ensures { result.now ≡ looks.kind kind };
 
     /// What it is told of lengths, marks, phases, variables, ports and rows: members of JSON.
-    fn look() -> &'static [u8]
+    fn look<'s>(setting: &'s Self::Setting) -> &'s [u8]
+        requires { Self.goes_by setting.now }
         ensures { result.now ≡ looks.rest };
 }

@@ -6,9 +6,9 @@ use Rattle.ghs_graph.specs.declared.key.Key.{Key}
 use Rattle.ghs_graph.specs.Bound.{IsFloorLog2}
 use Rattle.ghs_graph.specs.Graph.{Shape}
 use Rattle.ghs_graph.proofs.lemmas.Joining.{joined_back}
-use Rattle.ghs_levels.specs.Levels.{IsOfLevel, InClass}
-use Rattle.ghs_levels.proofs.lemmas.Sizes.{levels_are_few}
-use Rattle.ghs_levels.proofs.lemmas.WaysUp.{level_at}
+use Rattle.boruvka_protocol.specs.Levels.{IsOfLevel, InClass}
+use Rattle.boruvka_protocol.proofs.lemmas.Sizes.{levels_are_few}
+use Rattle.boruvka_protocol.proofs.lemmas.WaysUp.{level_at}
 use Rattle.peer_network.specs.Network.{network_of, At, InNetwork, port_at, far, far_port}
 use Rattle.peer_network.specs.Sums.{sum_below, sum_over_nodes}
 use Rattle.peer_network.proofs.lemmas.Wires.{at_in}

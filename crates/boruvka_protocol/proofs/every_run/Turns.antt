@@ -5,8 +5,8 @@ use Rattle.std.proofs.lemmas.Option.{same_Some}
 use Rattle.ghs_graph.specs.declared.key.Key.{Key}
 use Rattle.ghs_graph.specs.Graph.{Shape, IsGraph}
 use Rattle.ghs_graph.specs.Ports.{far_end}
-use Rattle.ghs_levels.specs.Levels.{InClass, IsOfLevel}
-use Rattle.ghs_levels.proofs.lemmas.WaysUp.{classes_have_one_top}
+use Rattle.boruvka_protocol.specs.Levels.{InClass, IsOfLevel}
+use Rattle.boruvka_protocol.proofs.lemmas.WaysUp.{classes_have_one_top}
 use Rattle.ghs_node.specs.Words.{is_at}
 use Rattle.peer_network.specs.Network.{Network, network_of, At, InNetwork, far, far_port}
 use Rattle.peer_network.proofs.lemmas.Wired.{IsWired}

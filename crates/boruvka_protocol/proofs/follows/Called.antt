@@ -7,11 +7,11 @@ use Rattle.ghs_graph.specs.Ports.{far_end}
 use Rattle.ghs_graph.specs.Graph.{Shape, IsGraph}
 use Rattle.ghs_graph.proofs.lemmas.Ports.{ends_b, end_cases, far_end_a, far_end_b}
 use Rattle.peer_network.proofs.lemmas.Graphs.{link_among}
-use Rattle.ghs_levels.specs.Levels.{Taken, IsOfLevel}
-use Rattle.ghs_levels.specs.WaysUp.{IsTop, Away}
-use Rattle.ghs_levels.proofs.lemmas.KeyOrder.{keys_decided}
-use Rattle.ghs_levels.proofs.lemmas.Cores.{least_is_one}
-use Rattle.ghs_levels.proofs.lemmas.WaysOut.{least_out}
+use Rattle.boruvka_protocol.specs.Levels.{Taken, IsOfLevel}
+use Rattle.boruvka_protocol.specs.WaysUp.{IsTop, Away}
+use Rattle.boruvka_protocol.proofs.lemmas.KeyOrder.{keys_decided}
+use Rattle.boruvka_protocol.proofs.lemmas.Cores.{least_is_one}
+use Rattle.boruvka_protocol.proofs.lemmas.WaysOut.{least_out}
 use Rattle.boruvka_protocol.proofs.invariant.Words.{IsLeast, IsWayUp}
 use Rattle.boruvka_protocol.proofs.levels.OneWay.{root_has_none, one_way_up}
 use Rattle.boruvka_protocol.proofs.levels.Chosen.{chosen_up}

@@ -6,9 +6,9 @@ use Rattle.ghs_graph.specs.Graph.{Shape, IsGraph}
 use Rattle.ghs_graph.specs.Ports.{far_end}
 use Rattle.peer_network.specs.Sums.{sum_below}
 use Rattle.peer_network.proofs.lemmas.Sums.{node_before, sum_less}
-use Rattle.ghs_levels.specs.Levels.{Taken}
-use Rattle.ghs_levels.specs.WaysUp.{IsTop, IsUp, IsBelow, Here, Up}
-use Rattle.ghs_levels.proofs.lemmas.WaysUp.{top_at, others_have_one_way_up, tops_have_no_way_up, ways_up_lead_to_top}
+use Rattle.boruvka_protocol.specs.Levels.{Taken}
+use Rattle.boruvka_protocol.specs.WaysUp.{IsTop, IsUp, IsBelow, Here, Up}
+use Rattle.boruvka_protocol.proofs.lemmas.WaysUp.{top_at, others_have_one_way_up, tops_have_no_way_up, ways_up_lead_to_top}
 use Rattle.boruvka_protocol.proofs.Unlike.{false_is_true}
 use Rattle.boruvka_protocol.proofs.follows.Ways.{over, ends_from, taken_ordered}
 

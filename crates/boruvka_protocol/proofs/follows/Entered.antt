@@ -5,8 +5,8 @@ use Rattle.ghs_graph.specs.declared.key.Key.{Key}
 use Rattle.ghs_graph.specs.Graph.{Shape, IsGraph}
 use Rattle.ghs_graph.specs.Links.{InTree}
 use Rattle.ghs_graph.proofs.lemmas.Joining.{joined_back}
-use Rattle.ghs_levels.specs.Levels.{Taken, InClass}
-use Rattle.ghs_levels.proofs.lemmas.WaysOut.{inside_is_tree}
+use Rattle.boruvka_protocol.specs.Levels.{Taken, InClass}
+use Rattle.boruvka_protocol.proofs.lemmas.WaysOut.{inside_is_tree}
 use Rattle.ghs_node.specs.Words.{is_at, is_name}
 use Rattle.boruvka_node.specs.declared.change.Entry.{Entry}
 use Rattle.boruvka_node.specs.declared.mark.Mark.{Mark}

@@ -8,8 +8,8 @@ use Rattle.ghs_graph.specs.Graph.{Shape}
 use Rattle.ghs_graph.specs.Links.{Joined, links}
 use Rattle.ghs_graph.proofs.lemmas.Joining.{joined_then, joined_back}
 use Rattle.peer_network.specs.Network.{network_of, far, InNetwork, At}
-use Rattle.ghs_levels.specs.Levels.{HasWayOut}
-use Rattle.ghs_levels.proofs.lemmas.WaysOut.{way_out_at}
+use Rattle.boruvka_protocol.specs.Levels.{HasWayOut}
+use Rattle.boruvka_protocol.proofs.lemmas.WaysOut.{way_out_at}
 use Rattle.peer_machine.specs.Net.{Net}
 use Rattle.boruvka_node.specs.declared.message.Message.{Message}
 use Rattle.boruvka_node.specs.declared.message.Message.TheVariants.{Connect, Initiate, Name, Report, ChangeRoot}

@@ -6,8 +6,8 @@ use Rattle.ghs_graph.specs.declared.key.Key.{Key}
 use Rattle.ghs_graph.specs.Graph.{Shape, IsGraph}
 use Rattle.ghs_graph.specs.Key.{ends_at}
 use Rattle.ghs_graph.proofs.lemmas.Ports.{ends_a, ends_b}
-use Rattle.ghs_levels.specs.Levels.{InClass}
-use Rattle.ghs_levels.proofs.lemmas.WaysOut.{ways_out_lift}
+use Rattle.boruvka_protocol.specs.Levels.{InClass}
+use Rattle.boruvka_protocol.proofs.lemmas.WaysOut.{ways_out_lift}
 use Rattle.peer_network.specs.declared.event.Event.{Event}
 use Rattle.peer_network.specs.Network as network
 use Rattle.peer_network.specs.Network.{Network, network_of, far, far_port, At}

@@ -2,7 +2,7 @@
 use Rattle.std.proofs.Common.{◌≡◌, ◌≢◌, ◌⊎◌, ⊎_elim, ℕ, suc, ◌+◌, ◌<◌, ◌≤◌, ◌||◌, ◌&&◌, Bool, true, false, Some, List, [], ◌∷◌, ◌++◌, length, refl, sym, ◌∙◌, ap, subst, cond, arith, eq-eqb}
 use Rattle.std.proofs.lemmas.Bool.{cases_eq, cases_lt}
 use Rattle.ghs_graph.specs.Graph.{Shape}
-use Rattle.ghs_levels.specs.Levels.{InClass, IsOfLevel}
+use Rattle.boruvka_protocol.specs.Levels.{InClass, IsOfLevel}
 use Rattle.ghs_node.specs.Words.{is_at}
 use Rattle.peer_network.specs.Network.{Network, network_of, far, far_port, InNetwork, At}
 use Rattle.peer_network.proofs.lemmas.Wired.{IsWired}

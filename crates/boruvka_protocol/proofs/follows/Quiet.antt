@@ -6,8 +6,8 @@ use Rattle.ghs_graph.specs.Graph.{Shape, IsGraph}
 use Rattle.ghs_graph.specs.Links.{Joined, Same, Over, Back, InTree}
 use Rattle.ghs_graph.proofs.lemmas.Joining.{joined_then, joined_back, joined_by_none}
 use Rattle.peer_network.proofs.lemmas.Graphs.{link_among}
-use Rattle.ghs_levels.specs.Levels.{Leaves, Taken, InClass, IsOfLevel}
-use Rattle.ghs_levels.proofs.lemmas.WaysUp.{level_at}
+use Rattle.boruvka_protocol.specs.Levels.{Leaves, Taken, InClass, IsOfLevel}
+use Rattle.boruvka_protocol.proofs.lemmas.WaysUp.{level_at}
 use Rattle.boruvka_node.specs.declared.mark.Mark.TheVariants.{Basic, Asked, Branch, Inside}
 use Rattle.boruvka_node.specs.declared.message.Phase.TheVariants.{Sleeping}
 use Rattle.boruvka_node.specs.Words.{is_basic}

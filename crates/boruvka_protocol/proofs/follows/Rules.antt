@@ -17,11 +17,11 @@ use Rattle.peer_network.specs.declared.event.Event.TheVariants as events
 use Rattle.peer_network.specs.Network.{network_of, far, far_port, InNetwork, At}
 use Rattle.peer_network.proofs.lemmas.Events.{node_of, at_of}
 use Rattle.peer_network.proofs.lemmas.Wires.{at_in}
-use Rattle.ghs_levels.specs.Levels.{HasWayOut, IsOfLevel}
-use Rattle.ghs_levels.specs.Cores.{IsCore}
-use Rattle.ghs_levels.proofs.lemmas.Cuts.{taken_links}
-use Rattle.ghs_levels.proofs.lemmas.Sizes.{levels_are_few}
-use Rattle.ghs_levels.proofs.lemmas.WaysOut.{way_out_at, next_of_level}
+use Rattle.boruvka_protocol.specs.Levels.{HasWayOut, IsOfLevel}
+use Rattle.boruvka_protocol.specs.Cores.{IsCore}
+use Rattle.boruvka_protocol.proofs.lemmas.Cuts.{taken_links}
+use Rattle.boruvka_protocol.proofs.lemmas.Sizes.{levels_are_few}
+use Rattle.boruvka_protocol.proofs.lemmas.WaysOut.{way_out_at, next_of_level}
 use Rattle.peer_machine.specs.declared.work.Work.TheVariants.{Wake, Deliver}
 use Rattle.peer_machine.specs.Rules.{Outgoing}
 use Rattle.peer_machine.specs.Net.{Net, are_on_ports, if_reacted, is_lawful, take_first, takes_from, effect}

@@ -19,11 +19,11 @@ use Rattle.ghs_graph.proofs.lemmas.Ports.{ends_a, ends_b, far_end_a, far_end_b}
 use Rattle.ghs_graph.specs.Computing.{joins}
 use Rattle.peer_network.specs.Network.{network_of, port_at, far, far_port, InNetwork, At}
 use Rattle.peer_network.proofs.lemmas.Graphs.{graph_wired, graph_keyed, link_among}
-use Rattle.ghs_levels.specs.Levels.{Leaves, Taken, InClass, IsOfLevel}
-use Rattle.ghs_levels.specs.WaysUp.{IsTop, IsUp}
-use Rattle.ghs_levels.proofs.lemmas.KeyOrder.{key_cases, stands_earlier}
-use Rattle.ghs_levels.proofs.lemmas.Cuts.{least_at, taken_in_tree, taken_links}
-use Rattle.ghs_levels.proofs.lemmas.WaysUp.{top_at, classes_have_one_top}
+use Rattle.boruvka_protocol.specs.Levels.{Leaves, Taken, InClass, IsOfLevel}
+use Rattle.boruvka_protocol.specs.WaysUp.{IsTop, IsUp}
+use Rattle.boruvka_protocol.proofs.lemmas.KeyOrder.{key_cases, stands_earlier}
+use Rattle.boruvka_protocol.proofs.lemmas.Cuts.{least_at, taken_in_tree, taken_links}
+use Rattle.boruvka_protocol.proofs.lemmas.WaysUp.{top_at, classes_have_one_top}
 use Rattle.peer_machine.specs.Net.{Net}
 use Rattle.boruvka_node.specs.declared.mark.Mark.TheVariants.{Asked}
 use Rattle.boruvka_node.specs.declared.message.Message.{Message}

@@ -8,11 +8,11 @@ use Rattle.ghs_graph.specs.Ports.{far_end}
 use Rattle.ghs_graph.proofs.lemmas.Joining.{joined_then, joined_back}
 use Rattle.ghs_graph.proofs.lemmas.Ports.{ends_a, far_end_a}
 use Rattle.peer_network.specs.Network.{network_of, port_at, far, far_port, InNetwork}
-use Rattle.ghs_levels.specs.Levels.{Taken, InClass, HasWayOut}
-use Rattle.ghs_levels.specs.WaysUp.{IsTop, IsUp, IsBelow, Here, Up}
-use Rattle.ghs_levels.proofs.lemmas.Cuts.{taken_in_tree, taken_links}
-use Rattle.ghs_levels.proofs.lemmas.WaysOut.{way_out_at, inside_is_tree}
-use Rattle.ghs_levels.proofs.lemmas.WaysUp.{top_at, ways_up_lead_to_top}
+use Rattle.boruvka_protocol.specs.Levels.{Taken, InClass, HasWayOut}
+use Rattle.boruvka_protocol.specs.WaysUp.{IsTop, IsUp, IsBelow, Here, Up}
+use Rattle.boruvka_protocol.proofs.lemmas.Cuts.{taken_in_tree, taken_links}
+use Rattle.boruvka_protocol.proofs.lemmas.WaysOut.{way_out_at, inside_is_tree}
+use Rattle.boruvka_protocol.proofs.lemmas.WaysUp.{top_at, ways_up_lead_to_top}
 use Rattle.peer_machine.specs.Net.{Net}
 use Rattle.boruvka_node.specs.declared.message.Message.{Message}
 use Rattle.boruvka_node.specs.declared.mark.Mark.TheVariants.{Branch}

@@ -13,12 +13,12 @@ use Rattle.ghs_graph.specs.Laws.{HasTwoPorts}
 use Rattle.ghs_graph.proofs.lemmas.Ports.{end_cases, far_end_a, far_end_b, links_have_two_ports}
 use Rattle.peer_network.specs.Network.{Network, network_of, port_at, far, At}
 use Rattle.peer_network.proofs.lemmas.Graphs.{link_among, port_ends, is_key}
-use Rattle.ghs_levels.specs.Levels.{Taken, InClass, HasWayOut, IsOfLevel}
-use Rattle.ghs_levels.specs.WaysUp.{IsTop}
-use Rattle.ghs_levels.proofs.lemmas.Cuts.{taken_in_tree}
-use Rattle.ghs_levels.proofs.lemmas.Computing.{in_class_decided}
-use Rattle.ghs_levels.proofs.lemmas.WaysOut.{whole_class}
-use Rattle.ghs_levels.proofs.lemmas.WaysUp.{top_at, classes_have_one_top, links_are_ways_up}
+use Rattle.boruvka_protocol.specs.Levels.{Taken, InClass, HasWayOut, IsOfLevel}
+use Rattle.boruvka_protocol.specs.WaysUp.{IsTop}
+use Rattle.boruvka_protocol.proofs.lemmas.Cuts.{taken_in_tree}
+use Rattle.boruvka_protocol.proofs.lemmas.Computing.{in_class_decided}
+use Rattle.boruvka_protocol.proofs.lemmas.WaysOut.{whole_class}
+use Rattle.boruvka_protocol.proofs.lemmas.WaysUp.{top_at, classes_have_one_top, links_are_ways_up}
 use Rattle.boruvka_protocol.proofs.invariant.Words.{IsWayUp}
 
 -- the port of u on the link k

@@ -2,7 +2,7 @@
 use Rattle.std.specs.Prelude.{◌≡◌, ◌≢◌, ◌↔◌, ℕ, suc, ◌≤◌, true, Some, List}
 use Rattle.ghs_graph.specs.declared.key.Key.{Key}
 use Rattle.ghs_graph.specs.Links.{InTree}
-use Rattle.ghs_levels.specs.Levels.{Taken, InClass}
+use Rattle.boruvka_protocol.specs.Levels.{Taken, InClass}
 use Rattle.boruvka_node.specs.declared.mark.Mark.TheVariants.{Branch, Inside}
 use Rattle.boruvka_node.specs.declared.message.Message.{Message}
 use Rattle.boruvka_node.specs.declared.message.Phase.TheVariants.{Search}

@@ -2,8 +2,8 @@
 use Rattle.std.specs.Prelude.{◌≡◌, ◌⊎◌, ℕ, suc, ◌+◌, ◌<◌, ◌≤◌, true, List, [], ◌∷◌, length}
 use Rattle.ghs_graph.specs.declared.key.Key.{Key}
 use Rattle.ghs_graph.specs.Links.{InTree}
-use Rattle.ghs_levels.specs.Levels.{InClass}
-use Rattle.ghs_levels.specs.Cores.{IsCore}
+use Rattle.boruvka_protocol.specs.Levels.{InClass}
+use Rattle.boruvka_protocol.specs.Cores.{IsCore}
 use Rattle.boruvka_node.specs.declared.message.Phase.TheVariants.{Rest}
 use Rattle.boruvka_node.specs.Words.{is_basic}
 use Rattle.boruvka_protocol.proofs.invariant.Words.{IsName}

@@ -1,7 +1,7 @@
 -- Clauses of one node: its level, name and parent are those of its class.
 use Rattle.std.specs.Prelude.{◌≡◌, ◌≢◌, ℕ, ◌<◌, true, Option, Some, None, List}
 use Rattle.ghs_graph.specs.declared.key.Key.{Key}
-use Rattle.ghs_levels.specs.Levels.{IsOfLevel}
+use Rattle.boruvka_protocol.specs.Levels.{IsOfLevel}
 use Rattle.boruvka_node.specs.declared.message.Phase.TheVariants.{Sleeping, Rest}
 use Rattle.boruvka_node.specs.State.{State, degree, key_at}
 use Rattle.boruvka_protocol.proofs.invariant.Words.{IsName, IsRoot, IsWayUp}

@@ -2,8 +2,8 @@
 use Rattle.std.specs.Prelude.{◌≡◌, ℕ, ◌<◌, true, Some, List}
 use Rattle.ghs_graph.specs.declared.key.Key.{Key}
 use Rattle.ghs_graph.specs.Key.{ends_at}
-use Rattle.ghs_levels.specs.Levels.{InClass, HasWayOut, IsOfLevel}
-use Rattle.ghs_levels.specs.WaysUp.{IsTop}
+use Rattle.boruvka_protocol.specs.Levels.{InClass, HasWayOut, IsOfLevel}
+use Rattle.boruvka_protocol.specs.WaysUp.{IsTop}
 use Rattle.peer_network.specs.Network.{Network, InNetwork, At}
 use Rattle.peer_machine.specs.Net.{Net}
 use Rattle.boruvka_node.specs.declared.message.Message.{Message}

@@ -1,8 +1,8 @@
 -- Clauses of what waits at a port but Names. e is that end of the link, f the other one.
 use Rattle.std.specs.Prelude.{◌≡◌, ◌⊎◌, ℕ, suc, Option, Some, None, List, [], ◌∷◌}
 use Rattle.ghs_graph.specs.declared.key.Key.{Key}
-use Rattle.ghs_levels.specs.Levels.{Taken}
-use Rattle.ghs_levels.specs.Cores.{IsCore}
+use Rattle.boruvka_protocol.specs.Levels.{Taken}
+use Rattle.boruvka_protocol.specs.Cores.{IsCore}
 use Rattle.boruvka_node.specs.declared.mark.Mark.TheVariants.{Branch}
 use Rattle.boruvka_node.specs.declared.message.Message.{Message}
 use Rattle.boruvka_node.specs.declared.message.Message.TheVariants.{Connect, Initiate, Report, ChangeRoot}

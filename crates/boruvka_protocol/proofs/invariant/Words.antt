@@ -1,9 +1,9 @@
 -- Levels of a graph by node: the class's name, the way up, the least way out, and what leaves from a node or below it.
 use Rattle.std.specs.Prelude.{◌≡◌, ◌⊎◌, ℕ, zero, suc, ◌<◌, Option, Some, None, List}
 use Rattle.ghs_graph.specs.declared.key.Key.{Key}
-use Rattle.ghs_levels.specs.Levels.{IsLeastOut, Taken}
-use Rattle.ghs_levels.specs.Cores.{IsCore}
-use Rattle.ghs_levels.specs.WaysUp.{IsTop, IsUp, LeavesBelow, IsSub}
+use Rattle.boruvka_protocol.specs.Levels.{IsLeastOut, Taken}
+use Rattle.boruvka_protocol.specs.Cores.{IsCore}
+use Rattle.boruvka_protocol.specs.WaysUp.{IsTop, IsUp, LeavesBelow, IsSub}
 use Rattle.boruvka_node.specs.declared.message.Phase.{Phase}
 use Rattle.boruvka_node.specs.declared.message.Phase.TheVariants.{Rest}
 

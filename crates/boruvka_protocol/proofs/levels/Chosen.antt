@@ -10,13 +10,13 @@ use Rattle.ghs_graph.proofs.lemmas.Keys.{lt_asymmetric}
 use Rattle.ghs_graph.proofs.lemmas.Joining.{joined_then, joined_back}
 use Rattle.ghs_graph.proofs.lemmas.Ports.{end_cases, far_end_a, far_end_b}
 use Rattle.peer_network.proofs.lemmas.Graphs.{link_among}
-use Rattle.ghs_levels.specs.Levels.{Leaves, IsLeastOut, Taken, IsOfLevel}
-use Rattle.ghs_levels.specs.Cores.{IsCore, LeadsTo, There, Falls}
-use Rattle.ghs_levels.specs.WaysUp.{Away}
-use Rattle.ghs_levels.proofs.lemmas.KeyOrder.{less_through, key_cases}
-use Rattle.ghs_levels.proofs.lemmas.Cuts.{least_at}
-use Rattle.ghs_levels.proofs.lemmas.WaysOut.{least_out}
-use Rattle.ghs_levels.proofs.lemmas.Cores.{least_is_one, classes_have_one_core, parts_lead_to_core}
+use Rattle.boruvka_protocol.specs.Levels.{Leaves, IsLeastOut, Taken, IsOfLevel}
+use Rattle.boruvka_protocol.specs.Cores.{IsCore, LeadsTo, There, Falls}
+use Rattle.boruvka_protocol.specs.WaysUp.{Away}
+use Rattle.boruvka_protocol.proofs.lemmas.KeyOrder.{less_through, key_cases}
+use Rattle.boruvka_protocol.proofs.lemmas.Cuts.{least_at}
+use Rattle.boruvka_protocol.proofs.lemmas.WaysOut.{least_out}
+use Rattle.boruvka_protocol.proofs.lemmas.Cores.{least_is_one, classes_have_one_core, parts_lead_to_core}
 use Rattle.boruvka_protocol.proofs.invariant.Words.{IsLeast, IsWayUp}
 use Rattle.boruvka_protocol.proofs.rows.Leaving.{AreEnds, joined_ends}
 

@@ -4,9 +4,9 @@ use Rattle.ghs_graph.specs.declared.key.Key.{Key}
 use Rattle.ghs_graph.specs.Graph.{Shape, IsGraph}
 use Rattle.peer_network.specs.Network.{network_of, At, port_at}
 use Rattle.peer_network.proofs.lemmas.Graphs.{graph_wired, graph_keyed, same_key}
-use Rattle.ghs_levels.specs.Levels.{Taken, IsOfLevel}
-use Rattle.ghs_levels.specs.WaysUp.{IsTop, IsUp, IsSub}
-use Rattle.ghs_levels.proofs.lemmas.WaysUp.{classes_have_one_top, others_have_one_way_up, tops_have_no_way_up}
+use Rattle.boruvka_protocol.specs.Levels.{Taken, IsOfLevel}
+use Rattle.boruvka_protocol.specs.WaysUp.{IsTop, IsUp, IsSub}
+use Rattle.boruvka_protocol.proofs.lemmas.WaysUp.{classes_have_one_top, others_have_one_way_up, tops_have_no_way_up}
 use Rattle.boruvka_protocol.proofs.invariant.Words.{IsRoot, IsWayUp, IsSubAt}
 
 module _ (g : Shape) (ok : IsGraph g) where

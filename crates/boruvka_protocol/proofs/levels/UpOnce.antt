@@ -7,14 +7,14 @@ use Rattle.ghs_graph.specs.Ports.{far_end}
 use Rattle.ghs_graph.specs.Graph.{Shape, IsGraph}
 use Rattle.ghs_graph.proofs.lemmas.Joining.{joined_back}
 use Rattle.peer_network.proofs.lemmas.Graphs.{link_among}
-use Rattle.ghs_levels.specs.Levels.{Taken, InClass, IsOfLevel}
-use Rattle.ghs_levels.specs.Cores.{IsCore}
-use Rattle.ghs_levels.specs.WaysUp.{IsTop, IsUp}
-use Rattle.ghs_levels.specs.Laws.{IsUpFrom}
-use Rattle.ghs_levels.proofs.lemmas.KeyOrder.{keys_decided}
-use Rattle.ghs_levels.proofs.lemmas.Cores.{least_is_one}
-use Rattle.ghs_levels.proofs.lemmas.WaysOut.{least_out}
-use Rattle.ghs_levels.proofs.lemmas.WaysUp.{top_at, classes_have_one_top, links_are_ways_up}
+use Rattle.boruvka_protocol.specs.Levels.{Taken, InClass, IsOfLevel}
+use Rattle.boruvka_protocol.specs.Cores.{IsCore}
+use Rattle.boruvka_protocol.specs.WaysUp.{IsTop, IsUp}
+use Rattle.boruvka_protocol.specs.LevelLaws.{IsUpFrom}
+use Rattle.boruvka_protocol.proofs.lemmas.KeyOrder.{keys_decided}
+use Rattle.boruvka_protocol.proofs.lemmas.Cores.{least_is_one}
+use Rattle.boruvka_protocol.proofs.lemmas.WaysOut.{least_out}
+use Rattle.boruvka_protocol.proofs.lemmas.WaysUp.{top_at, classes_have_one_top, links_are_ways_up}
 use Rattle.boruvka_protocol.proofs.invariant.Words.{IsLeast, IsWayUp}
 use Rattle.boruvka_protocol.proofs.levels.Chosen.{chosen_up}
 use Rattle.boruvka_protocol.proofs.rows.Leaving.{AreEnds, joined_ends, end_there, far_back}

@@ -1,7 +1,7 @@
 -- A node that holds the token of its class, at rest, and is about to move.
 use Rattle.std.specs.Prelude.{◌≡◌, ℕ, Some, None, List}
 use Rattle.ghs_graph.specs.declared.key.Key.{Key}
-use Rattle.ghs_levels.specs.Levels.{InClass, IsOfLevel}
+use Rattle.boruvka_protocol.specs.Levels.{InClass, IsOfLevel}
 use Rattle.peer_network.specs.Network.{Network, InNetwork}
 use Rattle.peer_machine.specs.Net.{Net}
 use Rattle.boruvka_node.specs.declared.message.Message.{Message}

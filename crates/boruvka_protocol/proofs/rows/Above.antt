@@ -11,10 +11,10 @@ use Rattle.peer_network.specs.Network.{Network, network_of, port_at, At, InNetwo
 use Rattle.peer_network.proofs.lemmas.Wired.{IsWired}
 use Rattle.peer_network.proofs.lemmas.Graphs.{graph_wired, port_ends}
 use Rattle.peer_network.proofs.lemmas.Wires.{at_in}
-use Rattle.ghs_levels.specs.Levels.{Taken, InClass, IsOfLevel}
-use Rattle.ghs_levels.specs.WaysUp.{IsTop, IsUp, IsBelow, Here, Up}
-use Rattle.ghs_levels.proofs.lemmas.Cuts.{taken_in_tree, least_at_end}
-use Rattle.ghs_levels.proofs.lemmas.WaysUp.{level_at, top_at, ways_up_lead_to_top}
+use Rattle.boruvka_protocol.specs.Levels.{Taken, InClass, IsOfLevel}
+use Rattle.boruvka_protocol.specs.WaysUp.{IsTop, IsUp, IsBelow, Here, Up}
+use Rattle.boruvka_protocol.proofs.lemmas.Cuts.{taken_in_tree, least_at_end}
+use Rattle.boruvka_protocol.proofs.lemmas.WaysUp.{level_at, top_at, ways_up_lead_to_top}
 use Rattle.peer_machine.specs.Net.{Net}
 use Rattle.boruvka_node.specs.declared.mark.Mark.TheVariants.{Branch}
 use Rattle.boruvka_node.specs.declared.message.Message.{Message}

@@ -5,8 +5,8 @@ use Rattle.std.proofs.lemmas.List.Sums.{sum_by-set}
 use Rattle.ghs_graph.specs.declared.key.Key.{Key}
 use Rattle.ghs_graph.specs.Graph.{Shape, IsGraph}
 use Rattle.ghs_graph.specs.Key.{no_key}
-use Rattle.ghs_levels.specs.Levels.{InClass}
-use Rattle.ghs_levels.specs.Cores.{IsCore}
+use Rattle.boruvka_protocol.specs.Levels.{InClass}
+use Rattle.boruvka_protocol.specs.Cores.{IsCore}
 use Rattle.peer_network.specs.Network.{Network, network_of, port_at, At, InNetwork, far, far_port}
 use Rattle.peer_network.proofs.lemmas.Wired.{IsWired}
 use Rattle.peer_network.proofs.lemmas.Graphs.{graph_wired, port_ends, link_among, is_key}

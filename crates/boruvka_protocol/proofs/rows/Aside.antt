@@ -2,8 +2,8 @@
 use Rattle.std.proofs.Common.{ℕ, suc, List}
 use Rattle.ghs_graph.specs.declared.key.Key.{Key}
 use Rattle.ghs_graph.specs.Links.{InTree}
-use Rattle.ghs_levels.specs.Levels.{Taken}
-use Rattle.ghs_levels.proofs.lemmas.Cuts.{taken_in_tree, least_in_tree}
+use Rattle.boruvka_protocol.specs.Levels.{Taken}
+use Rattle.boruvka_protocol.proofs.lemmas.Cuts.{taken_in_tree, least_in_tree}
 use Rattle.boruvka_node.specs.declared.message.Message.{Message}
 use Rattle.boruvka_protocol.proofs.invariant.Words.{IsLeast}
 use Rattle.boruvka_protocol.proofs.invariant.Sides.{Side}

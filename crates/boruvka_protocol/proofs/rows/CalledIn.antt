@@ -7,8 +7,8 @@ use Rattle.ghs_graph.specs.Graph.{Shape, IsGraph}
 use Rattle.ghs_graph.specs.Links.{Same}
 use Rattle.ghs_graph.proofs.lemmas.Joining.{joined_back}
 use Rattle.ghs_node.specs.Words.{is_at}
-use Rattle.ghs_levels.specs.Levels.{Taken, IsOfLevel}
-use Rattle.ghs_levels.proofs.lemmas.WaysUp.{level_at, top_at}
+use Rattle.boruvka_protocol.specs.Levels.{Taken, IsOfLevel}
+use Rattle.boruvka_protocol.proofs.lemmas.WaysUp.{level_at, top_at}
 use Rattle.peer_network.specs.Network.{Network, network_of, port_at, At, InNetwork, far, far_port}
 use Rattle.peer_network.proofs.lemmas.Wired.{IsWired}
 use Rattle.peer_network.proofs.lemmas.Graphs.{graph_wired, port_ends}

@@ -2,7 +2,7 @@
 use Rattle.std.proofs.Common.{◌≡◌, ◌≢◌, ℕ, ◌<◌, List, sym, ◌∙◌, subst, ⊎_elim}
 use Rattle.std.proofs.lemmas.Bool.{cases_eq}
 use Rattle.ghs_graph.specs.declared.key.Key.{Key}
-use Rattle.ghs_levels.specs.Levels.{InClass}
+use Rattle.boruvka_protocol.specs.Levels.{InClass}
 use Rattle.peer_network.specs.Network.{Network, At, port_at, far}
 use Rattle.peer_network.proofs.lemmas.Wired.{IsWired}
 use Rattle.peer_machine.specs.Rules.{Outgoing}

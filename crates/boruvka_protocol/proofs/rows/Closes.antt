@@ -6,11 +6,11 @@ use Rattle.ghs_graph.specs.declared.key.Key.{Key}
 use Rattle.ghs_graph.specs.Graph.{Shape, IsGraph}
 use Rattle.ghs_graph.specs.Links.{Same}
 use Rattle.ghs_graph.proofs.lemmas.Joining.{joined_back}
-use Rattle.ghs_levels.specs.Levels.{Taken, InClass, HasWayOut, IsOfLevel}
-use Rattle.ghs_levels.specs.WaysUp.{IsTop, IsSub}
-use Rattle.ghs_levels.proofs.lemmas.Computing.{in_class_decided}
-use Rattle.ghs_levels.proofs.lemmas.WaysOut.{least_out}
-use Rattle.ghs_levels.proofs.lemmas.WaysUp.{top_inside, top_at, sub_of_top_is_least}
+use Rattle.boruvka_protocol.specs.Levels.{Taken, InClass, HasWayOut, IsOfLevel}
+use Rattle.boruvka_protocol.specs.WaysUp.{IsTop, IsSub}
+use Rattle.boruvka_protocol.proofs.lemmas.Computing.{in_class_decided}
+use Rattle.boruvka_protocol.proofs.lemmas.WaysOut.{least_out}
+use Rattle.boruvka_protocol.proofs.lemmas.WaysUp.{top_inside, top_at, sub_of_top_is_least}
 use Rattle.ghs_node.specs.Words.{Best, best_key}
 use Rattle.peer_network.specs.Network.{Network, network_of, InNetwork, At, port_at, far}
 use Rattle.peer_machine.specs.Rules.{Outgoing}

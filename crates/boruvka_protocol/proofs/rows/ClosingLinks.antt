@@ -1,7 +1,7 @@
 -- A search ends: what that keeps at each link of the node, from both its ends. The node n stands at port p of v, and its far end has m.
 use Rattle.std.proofs.Common.{◌≡◌, ◌≢◌, ◌⊎◌, ℕ, suc, ◌<◌, ◌≤◌, inl, inr, ⊎_elim, Bool, true, false, Option, None, List, [], ◌∷◌, refl, sym, ◌∙◌, subst, arith}
 use Rattle.ghs_graph.specs.declared.key.Key.{Key}
-use Rattle.ghs_levels.specs.Levels.{Taken}
+use Rattle.boruvka_protocol.specs.Levels.{Taken}
 use Rattle.ghs_node.specs.Words.{Best}
 use Rattle.peer_network.specs.Network.{Network, port_at, far}
 use Rattle.boruvka_node.specs.declared.mark.Mark.{Mark}

@@ -5,9 +5,9 @@ use Rattle.ghs_graph.specs.declared.key.Key.{Key}
 use Rattle.ghs_graph.specs.Graph.{Shape, IsGraph}
 use Rattle.ghs_graph.specs.Links.{Joined, Same}
 use Rattle.ghs_graph.proofs.lemmas.Joining.{joined_back}
-use Rattle.ghs_levels.specs.Levels.{Taken, InClass}
-use Rattle.ghs_levels.specs.WaysUp.{IsTop, IsUp}
-use Rattle.ghs_levels.proofs.lemmas.WaysUp.{top_at, classes_have_one_top, links_are_ways_up}
+use Rattle.boruvka_protocol.specs.Levels.{Taken, InClass}
+use Rattle.boruvka_protocol.specs.WaysUp.{IsTop, IsUp}
+use Rattle.boruvka_protocol.proofs.lemmas.WaysUp.{top_at, classes_have_one_top, links_are_ways_up}
 use Rattle.ghs_node.specs.Words.{Best}
 use Rattle.peer_network.specs.Network.{Network, network_of, InNetwork, At, port_at, far, far_port}
 use Rattle.peer_network.proofs.lemmas.Wired.{IsWired}

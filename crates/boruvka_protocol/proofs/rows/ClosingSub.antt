@@ -9,11 +9,11 @@ use Rattle.ghs_graph.specs.Ports.{far_end}
 use Rattle.ghs_graph.proofs.lemmas.Joining.{joined_back}
 use Rattle.ghs_graph.proofs.lemmas.Keys.{lt_irreflexive, lt_asymmetric}
 use Rattle.ghs_graph.proofs.lemmas.Ports.{end_cases, far_end_a, far_end_b}
-use Rattle.ghs_levels.specs.Levels.{Leaves, Taken, InClass}
-use Rattle.ghs_levels.specs.WaysUp.{IsTop, IsUp, LeavesBelow, IsSub, IsOffered, Own, From_child}
-use Rattle.ghs_levels.proofs.lemmas.Cuts.{taken_in_tree}
-use Rattle.ghs_levels.proofs.lemmas.KeyOrder.{not_below_less, less_through}
-use Rattle.ghs_levels.proofs.lemmas.WaysUp.{top_at, classes_have_one_top, nodes_have_one_sub, subs_are_of_children}
+use Rattle.boruvka_protocol.specs.Levels.{Leaves, Taken, InClass}
+use Rattle.boruvka_protocol.specs.WaysUp.{IsTop, IsUp, LeavesBelow, IsSub, IsOffered, Own, From_child}
+use Rattle.boruvka_protocol.proofs.lemmas.Cuts.{taken_in_tree}
+use Rattle.boruvka_protocol.proofs.lemmas.KeyOrder.{not_below_less, less_through}
+use Rattle.boruvka_protocol.proofs.lemmas.WaysUp.{top_at, classes_have_one_top, nodes_have_one_sub, subs_are_of_children}
 use Rattle.ghs_node.specs.Words.{Best, better}
 use Rattle.peer_network.specs.Network.{Network, network_of, InNetwork, At, port_at, far, far_port}
 use Rattle.peer_network.proofs.lemmas.Graphs.{port_ends, is_key, link_among, graph_rising}

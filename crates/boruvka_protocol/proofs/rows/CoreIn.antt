@@ -5,10 +5,10 @@ use Rattle.std.proofs.lemmas.Option.{same_Some}
 use Rattle.ghs_graph.specs.declared.key.Key.{Key}
 use Rattle.ghs_graph.specs.Graph.{Shape, IsGraph}
 use Rattle.ghs_graph.specs.Links.{Same}
-use Rattle.ghs_levels.specs.Levels.{InClass, IsOfLevel}
-use Rattle.ghs_levels.specs.Cores.{IsCore}
-use Rattle.ghs_levels.proofs.lemmas.Cores.{least_is_one}
-use Rattle.ghs_levels.proofs.lemmas.WaysOut.{next_of_level}
+use Rattle.boruvka_protocol.specs.Levels.{InClass, IsOfLevel}
+use Rattle.boruvka_protocol.specs.Cores.{IsCore}
+use Rattle.boruvka_protocol.proofs.lemmas.Cores.{least_is_one}
+use Rattle.boruvka_protocol.proofs.lemmas.WaysOut.{next_of_level}
 use Rattle.peer_network.specs.Network.{Network, network_of, port_at, At, InNetwork, far, far_port}
 use Rattle.peer_network.proofs.lemmas.Graphs.{port_ends, link_among}
 use Rattle.peer_network.proofs.lemmas.Wires.{at_in}

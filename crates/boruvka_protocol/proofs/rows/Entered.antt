@@ -6,8 +6,8 @@ use Rattle.ghs_graph.specs.Key.{ends_at}
 use Rattle.ghs_graph.specs.Graph.{Shape, IsGraph}
 use Rattle.ghs_graph.specs.Links.{Same}
 use Rattle.ghs_node.specs.Words.{is_at}
-use Rattle.ghs_levels.specs.Levels.{Taken, InClass, HasWayOut, IsOfLevel}
-use Rattle.ghs_levels.specs.Cores.{IsCore}
+use Rattle.boruvka_protocol.specs.Levels.{Taken, InClass, HasWayOut, IsOfLevel}
+use Rattle.boruvka_protocol.specs.Cores.{IsCore}
 use Rattle.peer_network.specs.Network.{Network, network_of, port_at, At, InNetwork, far, far_port}
 use Rattle.peer_network.proofs.lemmas.Wired.{IsWired}
 use Rattle.peer_network.proofs.lemmas.Wires.{at_in, neighbour}

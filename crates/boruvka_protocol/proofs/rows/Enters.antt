@@ -6,10 +6,10 @@ use Rattle.ghs_graph.specs.Graph.{Shape, IsGraph}
 use Rattle.ghs_graph.specs.Links.{InTree, Same}
 use Rattle.ghs_graph.proofs.lemmas.Joining.{joined_back}
 use Rattle.ghs_node.specs.Words.{is_at, is_name}
-use Rattle.ghs_levels.specs.Levels.{Taken, InClass, IsOfLevel}
-use Rattle.ghs_levels.specs.Cores.{IsCore}
-use Rattle.ghs_levels.proofs.lemmas.WaysOut.{still_in_class}
-use Rattle.ghs_levels.proofs.lemmas.WaysUp.{core_at}
+use Rattle.boruvka_protocol.specs.Levels.{Taken, InClass, IsOfLevel}
+use Rattle.boruvka_protocol.specs.Cores.{IsCore}
+use Rattle.boruvka_protocol.proofs.lemmas.WaysOut.{still_in_class}
+use Rattle.boruvka_protocol.proofs.lemmas.WaysUp.{core_at}
 use Rattle.peer_network.specs.Network.{Network, network_of, port_at, At, InNetwork, far, far_port}
 use Rattle.peer_network.proofs.lemmas.Wired.{IsWired}
 use Rattle.peer_network.proofs.lemmas.Graphs.{graph_wired, port_ends}

@@ -6,12 +6,12 @@ use Rattle.ghs_graph.specs.declared.key.Key.{Key}
 use Rattle.ghs_graph.specs.Graph.{Shape, IsGraph}
 use Rattle.ghs_graph.specs.Links.{InTree}
 use Rattle.ghs_graph.proofs.lemmas.Joining.{joined_then, joined_back, joined_by_none}
-use Rattle.ghs_levels.specs.Levels.{Taken, InClass, IsOfLevel}
-use Rattle.ghs_levels.specs.Cores.{IsCore}
-use Rattle.ghs_levels.proofs.lemmas.Cuts.{least_at_end}
-use Rattle.ghs_levels.proofs.lemmas.Cores.{classes_have_one_core}
-use Rattle.ghs_levels.proofs.lemmas.WaysOut.{inside_is_tree}
-use Rattle.ghs_levels.proofs.lemmas.WaysUp.{core_at}
+use Rattle.boruvka_protocol.specs.Levels.{Taken, InClass, IsOfLevel}
+use Rattle.boruvka_protocol.specs.Cores.{IsCore}
+use Rattle.boruvka_protocol.proofs.lemmas.Cuts.{least_at_end}
+use Rattle.boruvka_protocol.proofs.lemmas.Cores.{classes_have_one_core}
+use Rattle.boruvka_protocol.proofs.lemmas.WaysOut.{inside_is_tree}
+use Rattle.boruvka_protocol.proofs.lemmas.WaysUp.{core_at}
 use Rattle.peer_network.specs.Network.{Network, network_of, port_at, far, far_port}
 use Rattle.boruvka_node.specs.declared.mark.Mark.{Mark}
 use Rattle.boruvka_node.specs.declared.mark.Mark.TheVariants.{Basic, Asked, Branch}

@@ -1,9 +1,9 @@
 -- A node enters the next level, and calls a neighbour there, whose way up the link is: what that keeps at it, from both its ends.
 use Rattle.std.proofs.Common.{◌≡◌, ◌⊎◌, ℕ, suc, ◌+◌, ◌<◌, inl, inr, ⊎_elim, true, Option, Some, List, [], ◌∷◌, ◌++◌, length, refl, sym, ◌∙◌, ap, subst, arith}
 use Rattle.ghs_graph.specs.declared.key.Key.{Key}
-use Rattle.ghs_levels.specs.Levels.{Taken}
-use Rattle.ghs_levels.specs.Cores.{IsCore}
-use Rattle.ghs_levels.proofs.lemmas.Cuts.{taken_in_tree}
+use Rattle.boruvka_protocol.specs.Levels.{Taken}
+use Rattle.boruvka_protocol.specs.Cores.{IsCore}
+use Rattle.boruvka_protocol.proofs.lemmas.Cuts.{taken_in_tree}
 use Rattle.peer_network.specs.Network.{Network, port_at, far, far_port}
 use Rattle.boruvka_node.specs.declared.mark.Mark.TheVariants.{Asked, Branch}
 use Rattle.boruvka_node.specs.declared.message.Message.{Message}

@@ -2,8 +2,8 @@
 use Rattle.std.proofs.Common.{◌≡◌, ◌⊎◌, ℕ, suc, ◌+◌, ◌≤◌, inr, ⊎_elim, false, Bool, Option, Some, None, List, [], ◌∷◌, ◌++◌, length, refl, sym, ap, subst, arith}
 use Rattle.ghs_graph.specs.declared.key.Key.{Key}
 use Rattle.ghs_graph.specs.Links.{InTree}
-use Rattle.ghs_levels.specs.Levels.{InClass}
-use Rattle.ghs_levels.specs.Cores.{IsCore}
+use Rattle.boruvka_protocol.specs.Levels.{InClass}
+use Rattle.boruvka_protocol.specs.Cores.{IsCore}
 use Rattle.peer_network.specs.Network.{Network, port_at, far}
 use Rattle.boruvka_node.specs.declared.mark.Mark.{Mark}
 use Rattle.boruvka_node.specs.declared.mark.Mark.TheVariants.{Inside}

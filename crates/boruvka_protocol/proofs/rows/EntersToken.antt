@@ -3,7 +3,7 @@ use Rattle.std.proofs.Common.{◌≡◌, ◌≢◌, ℕ, suc, ◌<◌, inl, inr,
 use Rattle.std.proofs.lemmas.Bool.{cases_eq}
 use Rattle.ghs_graph.specs.declared.key.Key.{Key}
 use Rattle.ghs_graph.specs.Key.{ends_at}
-use Rattle.ghs_levels.specs.Levels.{HasWayOut, InClass}
+use Rattle.boruvka_protocol.specs.Levels.{HasWayOut, InClass}
 use Rattle.peer_network.specs.Network.{Network, At, InNetwork, port_at}
 use Rattle.peer_machine.specs.Net.{Net}
 use Rattle.boruvka_node.specs.declared.message.Message.{Message}

@@ -2,7 +2,7 @@
 use Rattle.std.proofs.Common.{◌≡◌, ℕ, suc, inl, ⊎_elim, false, Option, List, [], ◌∷◌, refl, sym, ◌∙◌, subst, arith}
 use Rattle.ghs_graph.specs.declared.key.Key.{Key}
 use Rattle.ghs_graph.specs.Links.{InTree}
-use Rattle.ghs_levels.proofs.lemmas.Cuts.{taken_in_tree}
+use Rattle.boruvka_protocol.proofs.lemmas.Cuts.{taken_in_tree}
 use Rattle.peer_network.specs.Network.{Network, port_at, far, far_port}
 use Rattle.boruvka_node.specs.declared.mark.Mark.TheVariants.{Branch}
 use Rattle.boruvka_node.specs.declared.message.Message.{Message}

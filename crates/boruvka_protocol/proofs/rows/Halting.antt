@@ -5,8 +5,8 @@ use Rattle.ghs_graph.specs.declared.key.Key.{Key}
 use Rattle.ghs_graph.specs.declared.port.Port.{Port}
 use Rattle.ghs_graph.specs.Graph.{Shape, IsGraph}
 use Rattle.ghs_graph.specs.Links.{Same}
-use Rattle.ghs_levels.specs.Levels.{HasWayOut}
-use Rattle.ghs_levels.proofs.lemmas.FirstPorts.{no_port_no_way_out}
+use Rattle.boruvka_protocol.specs.Levels.{HasWayOut}
+use Rattle.boruvka_protocol.proofs.lemmas.FirstPorts.{no_port_no_way_out}
 use Rattle.peer_network.specs.Network.{Network, network_of, InNetwork, far}
 use Rattle.peer_network.proofs.lemmas.Wired.{IsWired}
 use Rattle.peer_network.proofs.lemmas.Graphs.{graph_wired}

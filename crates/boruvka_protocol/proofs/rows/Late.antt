@@ -5,9 +5,9 @@ use Rattle.ghs_graph.specs.Graph.{Shape, IsGraph}
 use Rattle.ghs_graph.specs.Key.{ends_at}
 use Rattle.ghs_graph.specs.Ports.{far_end}
 use Rattle.ghs_graph.proofs.lemmas.Joining.{joined_then, joined_back}
-use Rattle.ghs_levels.specs.Levels.{Taken, InClass, IsOfLevel}
-use Rattle.ghs_levels.specs.Cores.{IsCore}
-use Rattle.ghs_levels.proofs.lemmas.WaysOut.{next_of_level}
+use Rattle.boruvka_protocol.specs.Levels.{Taken, InClass, IsOfLevel}
+use Rattle.boruvka_protocol.specs.Cores.{IsCore}
+use Rattle.boruvka_protocol.proofs.lemmas.WaysOut.{next_of_level}
 use Rattle.peer_network.specs.Network.{Network, network_of, port_at, far, far_port}
 use Rattle.boruvka_node.specs.declared.mark.Mark.TheVariants.{Branch}
 use Rattle.boruvka_node.specs.declared.message.Message.{Message}

@@ -6,7 +6,7 @@ use Rattle.ghs_graph.specs.Key.{ends_at}
 use Rattle.ghs_graph.specs.Ports.{far_end}
 use Rattle.ghs_graph.proofs.lemmas.Joining.{joined_then, joined_back}
 use Rattle.ghs_graph.proofs.lemmas.Ports.{ends_a, ends_b, far_end_a, far_end_b}
-use Rattle.ghs_levels.specs.Levels.{Leaves}
+use Rattle.boruvka_protocol.specs.Levels.{Leaves}
 
 -- v and u are its ends
 abbrev pub AreEnds : ℕ → ℕ → Key → Type 0

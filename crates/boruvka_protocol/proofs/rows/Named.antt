@@ -6,10 +6,10 @@ use Rattle.ghs_graph.specs.declared.key.Key.{Key}
 use Rattle.ghs_graph.specs.Graph.{Shape, IsGraph}
 use Rattle.ghs_graph.specs.Links.{InTree}
 use Rattle.ghs_graph.proofs.lemmas.Joining.{joined_then, joined_back}
-use Rattle.ghs_levels.specs.Levels.{Taken, InClass, IsOfLevel}
-use Rattle.ghs_levels.specs.Cores.{IsCore}
-use Rattle.ghs_levels.proofs.lemmas.WaysOut.{inside_is_tree}
-use Rattle.ghs_levels.proofs.lemmas.Cores.{classes_have_one_core}
+use Rattle.boruvka_protocol.specs.Levels.{Taken, InClass, IsOfLevel}
+use Rattle.boruvka_protocol.specs.Cores.{IsCore}
+use Rattle.boruvka_protocol.proofs.lemmas.WaysOut.{inside_is_tree}
+use Rattle.boruvka_protocol.proofs.lemmas.Cores.{classes_have_one_core}
 use Rattle.peer_network.specs.Network.{Network, network_of, port_at, far}
 use Rattle.boruvka_node.specs.declared.mark.Mark.TheVariants.{Inside}
 use Rattle.boruvka_node.specs.declared.message.Message.{Message}

@@ -1,7 +1,7 @@
 -- A Connect of the node's own level is noted: what that keeps at the link, from both its ends.
 use Rattle.std.proofs.Common.{◌≡◌, ℕ, ◌<◌, true, Some, List, ◌∷◌, refl, sym, subst}
 use Rattle.ghs_graph.specs.declared.key.Key.{Key}
-use Rattle.ghs_levels.specs.Levels.{Taken, InClass}
+use Rattle.boruvka_protocol.specs.Levels.{Taken, InClass}
 use Rattle.peer_network.specs.Network.{Network, port_at, far}
 use Rattle.boruvka_node.specs.declared.mark.Mark.{Mark}
 use Rattle.boruvka_node.specs.declared.mark.Mark.TheVariants.{Basic, Asked, Branch, Inside}

@@ -5,8 +5,8 @@ use Rattle.std.proofs.lemmas.Option.{same_Some}
 use Rattle.ghs_graph.specs.declared.key.Key.{Key}
 use Rattle.ghs_graph.specs.Graph.{Shape, IsGraph}
 use Rattle.ghs_graph.specs.Links.{Same}
-use Rattle.ghs_levels.specs.Levels.{Taken}
-use Rattle.ghs_levels.proofs.lemmas.WaysOut.{next_of_level}
+use Rattle.boruvka_protocol.specs.Levels.{Taken}
+use Rattle.boruvka_protocol.proofs.lemmas.WaysOut.{next_of_level}
 use Rattle.peer_network.specs.Network.{Network, network_of, port_at, At, InNetwork, far, far_port}
 use Rattle.peer_network.proofs.lemmas.Wired.{IsWired}
 use Rattle.peer_network.proofs.lemmas.Graphs.{graph_wired, port_ends}

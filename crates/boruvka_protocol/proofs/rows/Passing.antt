@@ -3,8 +3,8 @@ use Rattle.std.proofs.Common.{◌≡◌, ◌≢◌, ◌⊎◌, ℕ, suc, ◌<◌
 use Rattle.std.proofs.lemmas.Bool.{cases_eq}
 use Rattle.ghs_graph.specs.declared.key.Key.{Key}
 use Rattle.ghs_graph.specs.Graph.{Shape, IsGraph}
-use Rattle.ghs_levels.specs.Levels.{Taken, InClass}
-use Rattle.ghs_levels.proofs.lemmas.Cuts.{least_at}
+use Rattle.boruvka_protocol.specs.Levels.{Taken, InClass}
+use Rattle.boruvka_protocol.proofs.lemmas.Cuts.{least_at}
 use Rattle.peer_network.specs.Network.{Network, network_of, port_at, At, InNetwork, far, far_port}
 use Rattle.peer_network.proofs.lemmas.Wired.{IsWired}
 use Rattle.peer_network.proofs.lemmas.Wires.{at_in, neighbour}

@@ -3,9 +3,9 @@ use Rattle.std.proofs.Common.{◌≡◌, ◌⊎◌, ℕ, ⊎_elim, List, sym, �
 use Rattle.std.proofs.lemmas.Bool.{cases_eq}
 use Rattle.ghs_graph.specs.declared.key.Key.{Key}
 use Rattle.ghs_graph.proofs.lemmas.Joining.{joined_then, joined_back}
-use Rattle.ghs_levels.specs.Levels.{InClass, IsOfLevel}
-use Rattle.ghs_levels.proofs.lemmas.Computing.{in_class_decided}
-use Rattle.ghs_levels.proofs.lemmas.WaysUp.{top_at}
+use Rattle.boruvka_protocol.specs.Levels.{InClass, IsOfLevel}
+use Rattle.boruvka_protocol.proofs.lemmas.Computing.{in_class_decided}
+use Rattle.boruvka_protocol.proofs.lemmas.WaysUp.{top_at}
 use Rattle.peer_network.specs.Network.{Network, InNetwork}
 use Rattle.peer_machine.specs.Net.{Net}
 use Rattle.boruvka_node.specs.declared.message.Message.{Message}

@@ -5,8 +5,8 @@ use Rattle.ghs_graph.specs.declared.key.Key.{Key}
 use Rattle.ghs_graph.specs.Key.{key_lt}
 use Rattle.ghs_graph.specs.Graph.{Shape, IsGraph}
 use Rattle.ghs_graph.proofs.lemmas.Keys.{lt_irreflexive}
-use Rattle.ghs_levels.specs.Levels.{IsOfLevel}
-use Rattle.ghs_levels.proofs.lemmas.KeyOrder.{not_below_less}
+use Rattle.boruvka_protocol.specs.Levels.{IsOfLevel}
+use Rattle.boruvka_protocol.proofs.lemmas.KeyOrder.{not_below_less}
 use Rattle.ghs_node.specs.Words.{Best, better}
 use Rattle.peer_network.specs.Network.{Network, network_of, At, InNetwork, far, far_port}
 use Rattle.peer_network.proofs.lemmas.Wired.{IsWired}

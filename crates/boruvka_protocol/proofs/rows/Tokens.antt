@@ -1,7 +1,7 @@
 -- Tokens, roots and halts in another net, by what their clauses read of a node.
 use Rattle.std.proofs.Common.{◌≡◌, ℕ, ◌<◌, true, Some, List, sym, ◌∙◌, subst}
 use Rattle.ghs_graph.specs.declared.key.Key.{Key}
-use Rattle.ghs_levels.specs.Levels.{HasWayOut}
+use Rattle.boruvka_protocol.specs.Levels.{HasWayOut}
 use Rattle.peer_network.specs.Network.{Network, At}
 use Rattle.peer_machine.specs.Net.{Net}
 use Rattle.boruvka_node.specs.declared.message.Message.{Message}

@@ -6,9 +6,9 @@ use Rattle.std.proofs.lemmas.Option.{same_Some}
 use Rattle.ghs_graph.specs.declared.key.Key.{Key}
 use Rattle.ghs_graph.specs.Graph.{Shape, IsGraph}
 use Rattle.ghs_graph.specs.Links.{Same}
-use Rattle.ghs_levels.specs.Levels.{Taken, HasWayOut, InClass}
-use Rattle.ghs_levels.specs.WaysUp.{IsTop}
-use Rattle.ghs_levels.proofs.lemmas.FirstPorts.{first_port_is_least}
+use Rattle.boruvka_protocol.specs.Levels.{Taken, HasWayOut, InClass}
+use Rattle.boruvka_protocol.specs.WaysUp.{IsTop}
+use Rattle.boruvka_protocol.proofs.lemmas.FirstPorts.{first_port_is_least}
 use Rattle.peer_network.specs.Network.{Network, network_of, port_at, At, InNetwork, far, far_port}
 use Rattle.peer_network.proofs.lemmas.Wired.{IsWired}
 use Rattle.peer_network.proofs.lemmas.Graphs.{graph_wired, has_port}

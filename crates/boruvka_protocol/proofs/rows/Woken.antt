@@ -1,7 +1,7 @@
 -- A sleeper wakes, before it goes out: what that keeps at each of its links, from both ends.
 use Rattle.std.proofs.Common.{ℕ, inl, ⊎_elim, List, refl, sym, subst, arith}
 use Rattle.ghs_graph.specs.declared.key.Key.{Key}
-use Rattle.ghs_levels.specs.Levels.{Taken}
+use Rattle.boruvka_protocol.specs.Levels.{Taken}
 use Rattle.peer_network.specs.Network.{Network}
 use Rattle.boruvka_node.specs.declared.message.Message.{Message}
 use Rattle.boruvka_node.specs.declared.message.Phase.TheVariants.{Sleeping, Rest}

@@ -1,6 +1,6 @@
 use Rattle.std.proofs.Common.{inl}
 use Rattle.ghs_hand.specs.Answers.{HasNoRun, IsRunText}
-use Rattle.ghs_hand.proofs.lemmas.Handing.{handed}
+use Rattle.peer_hand.proofs.lemmas.Handing.{handed}
 use Rattle.ghs_hand.proofs.answers.hand_run.Goals as goal
 
 pub returns : goal.returns

@@ -1,6 +1,6 @@
 use Rattle.ghs_hand.specs.Answers.{IsToldOf}
 use Rattle.ghs_hand.specs.Led.{LeadsNowhere}
-use Rattle.ghs_hand.proofs.lemmas.Handing.{handed}
+use Rattle.peer_hand.proofs.lemmas.Handing.{handed}
 use Rattle.ghs_hand.proofs.answers.hand_seen.Goals as goal
 
 pub returns : goal.returns

@@ -1,5 +1,5 @@
 use Rattle.std.proofs.Common.{subst, sym}
-use Rattle.ghs_hand.specs.declared.fault.HandFault.{HandFault}
+use Rattle.peer_hand.specs.declared.fault.HandFault.{HandFault}
 use Rattle.ghs_hand.specs.Led.{LeadsNowhere}
 use Rattle.ghs_hand.proofs.Nowhere.{no_run}
 use Rattle.ghs_hand.proofs.led.led.Goals as goal

@@ -1,7 +1,7 @@
 use Rattle.std.proofs.Common.{ℕ, List}
 use Rattle.ghs_graph.specs.Graph.{Shape}
-use Rattle.ghs_hand.specs.Led.{HasNoGraph, IsTextOf}
-use Rattle.ghs_hand.proofs.lemmas.Handing.{handed}
+use Rattle.peer_hand.specs.Texts.{HasNoGraph, IsTextOf}
+use Rattle.peer_hand.proofs.lemmas.Handing.{handed}
 use Rattle.ghs_outcomes.specs.Limit.{at_least_1}
 use Rattle.ghs_outcomes.specs.Outcomes.{IsTold, explores_by}
 use Rattle.ghs_outcomes.proofs.outcomes.hand_outcomes.Goals as goal

@@ -3,7 +3,7 @@ use Rattle.ghs_core.specs.NetState.{NetState}
 use Rattle.ghs_graph.specs.Graph.{IsGraph}
 use Rattle.ghs_sched.specs.Picks.{lawful_events}
 use Rattle.ghs_patient.specs.Runs.{patient_after}
-use Rattle.ghs_waits.specs.Runs.{waiting_after}
+use Rattle.ghs_orders.specs.WaitsRuns.{waiting_after}
 use Rattle.ghs_picking.proofs.BySeed.{HasGoneOn, Laws, at_limit_by_rounds, at_limit_in_turn, at_limit_last, at_limit_patient, at_limit_waiting, gone_among, gone_by_rounds, gone_in_turn, gone_last, is_in_rounds, is_seeded, on_ok_by_rounds, on_ok_in_turn, on_ok_last, on_ok_patient, on_ok_seeded, on_ok_waiting}
 use Rattle.ghs_picking.proofs.picking.run_timed.Goals as goal
 

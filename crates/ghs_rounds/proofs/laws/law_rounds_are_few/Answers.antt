@@ -1,5 +1,5 @@
 use Rattle.std.proofs.Common.{◌≤◌, arith}
-use Rattle.ghs_chain.specs.Chains.{longest_chain}
+use Rattle.ghs_following.specs.Chains.{longest_chain}
 use Rattle.peer_network.specs.Network.{network_of}
 use Rattle.ghs_rounds.proofs.AnyOrder.{by_numbers}
 use Rattle.ghs_rounds.proofs.Steps.{Promised}

@@ -1,5 +1,5 @@
 use Rattle.std.proofs.Common.{◌+◌, ◌*◌, ◌≤◌, arith}
-use Rattle.ghs_chain.specs.Chains.{longest_chain}
+use Rattle.ghs_following.specs.Chains.{longest_chain}
 use Rattle.ghs_protocol.proofs.lemmas.Runs.{after_is_net}
 use Rattle.ghs_protocol.specs.Ledger.{in_all}
 use Rattle.ghs_protocol.specs.Run.{net_after}

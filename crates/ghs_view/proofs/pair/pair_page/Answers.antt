@@ -1,6 +1,6 @@
 use Rattle.std.proofs.Common.{◌≡◌, ◌∙◌, ap, rules, sym, ⊎_elim, ℕ, List}
 use Rattle.std.proofs.lemmas.Bool.{false≢true}
-use Rattle.ghs_page.specs.Page.{pair_text}
+use Rattle.peer_page.specs.Page.{pair_text}
 use Rattle.peer_network.specs.Network.{network_of}
 use Rattle.ghs_view.specs.RunPage.{run_json}
 use Rattle.ghs_view.proofs.Front.{front_is_run}

@@ -9,27 +9,27 @@ use Rattle.peer_steps.proofs.Ruled.{ruled}
 use Rattle.peer_steps.proofs.write.make.Goals as goal
 
 pub node-requires-clause-low : goal.node-requires-clause-low
-node-requires-clause-low g c = rw c.node_of-v.ensures (lawful_node g.P.Protocol.rules c.args.net.now c.args.event c.requires).0
+node-requires-clause-low g c = rw c.node_of-v.ensures (lawful_node g.P.Protocol.rules c.args.net.now c.args.event c.requires.lawful).0
 
 pub node-requires-clause-high : goal.node-requires-clause-high
-node-requires-clause-high g c = rw c.node_of-v.ensures (lawful_node g.P.Protocol.rules c.args.net.now c.args.event c.requires).1
+node-requires-clause-high g c = rw c.node_of-v.ensures (lawful_node g.P.Protocol.rules c.args.net.now c.args.event c.requires.lawful).1
 
 pub react-requires : goal.react-requires
 react-requires g c =
     let s = c.args.net.now in
     record {
-      setting = c.setting.ensures;
+      setting = c.requires.setting;
       rule =
           rw (c.node.ensures, c.node_of-v.ensures, c.work_of.ensures)
-          (ruled g.P.Protocol.rules g.met.P.Protocol.has_rules s c.args.event c.trace.ensures.graph c.trace.ensures.run c.requires);
+          (ruled g.P.Protocol.rules g.met.P.Protocol.has_rules s c.args.event c.trace.ensures.graph c.trace.ensures.run c.requires.lawful);
     }
 
 pub sent_by-requires-clause-low : goal.sent_by-requires-clause-low
-sent_by-requires-clause-low g c = rw c.node_of-v.ensures (lawful_node g.P.Protocol.rules c.args.net.now c.args.event c.requires).0
+sent_by-requires-clause-low g c = rw c.node_of-v.ensures (lawful_node g.P.Protocol.rules c.args.net.now c.args.event c.requires.lawful).0
 
 pub sent_by-requires-clause-high : goal.sent_by-requires-clause-high
 sent_by-requires-clause-high g c = rw (c.node_of-v.ensures, c.graph.ensures)
-    (lawful_node g.P.Protocol.rules c.args.net.now c.args.event c.requires).1
+    (lawful_node g.P.Protocol.rules c.args.net.now c.args.event c.requires.lawful).1
 
 pub returns-clause-changes : goal.returns-clause-changes
 returns-clause-changes g c =

@@ -9,5 +9,5 @@ returns-clause-text g c =
     c.in_ok-put_line.ensures
     ∙ ap (λ t. c.args.text.now.items ++ t)
     (line_is g.P.Protocol.rules g.P.Spoken.words c.args.form s.graph s.trace c.args.event c.make.new.net _ _ _ _ made.graph made.trace
-    c.moment_at-moment.ensures
+    c.in_ok-moment.ensures
     made.changes made.sends c.total.ensures)

@@ -1,6 +1,6 @@
 use Rattle.std.proofs.Common.{◌∙◌, ap, rules, sym}
 use Rattle.std.proofs.lemmas.Bool.{false≢true}
-use Rattle.ghs_page.specs.Page.{page_text}
+use Rattle.peer_page.specs.Page.{page_text}
 use Rattle.peer_network.specs.Network.{network_of}
 use Rattle.peer_view.proofs.Front.{front_is_run}
 use Rattle.peer_view.proofs.page.run_page.Goals as goal

@@ -1,6 +1,6 @@
 use Rattle.std.proofs.Common.{◌≡◌, ◌∙◌, ◌<◌, ◌-◌, ◌^◌, Bool, ap, subst, sym}
 use Rattle.peer_chains.specs.Chains.{Chains, hears}
-use Rattle.ghs_chain.specs.Chains.{is_deferred}
+use Rattle.ghs_following.specs.Chains.{is_deferred}
 use Rattle.peer_chains.specs.Kept.{seen}
 use Rattle.ghs_rounds.proofs.clock.Clock.follow.Goals as goal
 

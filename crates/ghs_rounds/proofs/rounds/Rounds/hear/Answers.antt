@@ -2,8 +2,8 @@ use Rattle.std.proofs.Common.{subst}
 use Rattle.ghs_graph.specs.Graph.{IsGraph}
 use Rattle.ghs_protocol.specs.Run.{IsRun}
 use Rattle.ghs_core.specs.NetState.{NetState, network}
-use Rattle.ghs_chain.specs.Kept.{AreChains}
-use Rattle.ghs_chain.proofs.lemmas.Carrying.{out_to}
+use Rattle.ghs_following.specs.Kept.{AreChains}
+use Rattle.ghs_following.proofs.lemmas.Carrying.{out_to}
 use Rattle.ghs_core.proofs.lemmas.Reacting.{answer_sends}
 use Rattle.ghs_rounds.proofs.Hearing.{hears_small}
 use Rattle.ghs_rounds.proofs.rounds.Rounds.hear.Goals as goal

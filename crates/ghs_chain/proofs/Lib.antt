@@ -1,5 +1,0 @@
--- Serves the proofs: nothing here has to be believed. lemmas is what proofs above this crate may use.
-pub mod Filling
-pub mod Swapping
-mod Examples
-pub mod lemmas

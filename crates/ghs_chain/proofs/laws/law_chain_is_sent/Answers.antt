@@ -1,5 +1,0 @@
-use Rattle.ghs_chain.proofs.lemmas.Bounding.{chains_are_sent}
-use Rattle.ghs_chain.proofs.laws.law_chain_is_sent.Goals as goal
-
-pub returns : goal.returns
-returns c = chains_are_sent

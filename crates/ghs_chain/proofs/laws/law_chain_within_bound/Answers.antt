@@ -1,5 +1,0 @@
-use Rattle.ghs_chain.proofs.lemmas.Bounding.{chains_within_bound}
-use Rattle.ghs_chain.proofs.laws.law_chain_within_bound.Goals as goal
-
-pub returns : goal.returns
-returns c = chains_within_bound

@@ -1,5 +1,0 @@
-use Rattle.ghs_chain.proofs.Swapping.{swaps_are_alike}
-use Rattle.ghs_chain.proofs.laws.law_swap.Goals as goal
-
-pub returns : goal.returns
-returns c = swaps_are_alike

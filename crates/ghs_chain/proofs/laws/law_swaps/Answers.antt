@@ -1,5 +1,0 @@
-use Rattle.ghs_chain.proofs.Swapping.{orders_are_alike}
-use Rattle.ghs_chain.proofs.laws.law_swaps.Goals as goal
-
-pub returns : goal.returns
-returns c = orders_are_alike

@@ -1,6 +1,0 @@
-use Rattle.ghs_core.specs.NetState.{net_of}
-use Rattle.ghs_cores.specs.Halting.{AreHalted}
-use Rattle.ghs_cores.proofs.ended.halted_nodes.Given as goal
-
-abbrev pub invariant-loop-v : goal.invariant-loop-v
-invariant-loop-v l = AreHalted l.net.graph (net_of l.net) l.v l.halted.items

@@ -1,5 +1,0 @@
-use Rattle.ghs_cores.specs.Components.{AreBelow, IsOfGraph}
-use Rattle.ghs_cores.proofs.merging.components_of.Given as goal
-
-abbrev pub invariant-loop-v : goal.invariant-loop-v
-invariant-loop-v l = AreBelow l.graph (IsOfGraph l.graph) l.v l.components.items

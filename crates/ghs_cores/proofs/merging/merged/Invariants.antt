@@ -1,9 +1,0 @@
-use Rattle.std.proofs.Common.{◌≡◌, ◌+◌, length}
-use Rattle.ghs_cores.specs.Fragments.{AreMerged}
-use Rattle.ghs_cores.proofs.merging.merged.Given as goal
-
-abbrev pub invariant-loop-key : goal.invariant-loop-key
-invariant-loop-key l = record {
-  count : length l.fragments.parents.items ≡ l.graph.nodes + 1;
-  merged : AreMerged l.graph.keys l.key-index l.fragments.parents.items l.fragments.levels.items l.fragments.cores.items;
-}

@@ -1,6 +1,0 @@
-use Rattle.ghs_hand.specs.Words.{event_words}
-use Rattle.ghs_hand.proofs.words.put_event.Goals as goal
-
-pub returns : goal.returns
-unfolding event_words
-returns c = c.put_between.ensures

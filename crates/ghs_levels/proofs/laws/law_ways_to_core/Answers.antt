@@ -1,5 +1,0 @@
-use Rattle.ghs_levels.proofs.lemmas.Cores.{parts_lead_to_core}
-use Rattle.ghs_levels.proofs.laws.law_ways_to_core.Goals as goal
-
-pub returns : goal.returns
-returns c = parts_lead_to_core

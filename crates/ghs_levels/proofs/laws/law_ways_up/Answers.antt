@@ -1,5 +1,0 @@
-use Rattle.ghs_levels.proofs.lemmas.WaysUp.{ways_up_lead_to_top}
-use Rattle.ghs_levels.proofs.laws.law_ways_up.Goals as goal
-
-pub returns : goal.returns
-returns c = ways_up_lead_to_top

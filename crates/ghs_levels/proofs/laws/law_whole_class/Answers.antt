@@ -1,8 +1,0 @@
-use Rattle.ghs_levels.proofs.lemmas.WaysOut.{whole_is_component, whole_is_tree_there}
-use Rattle.ghs_levels.proofs.laws.law_whole_class.Goals as goal
-
-pub returns-clause-component : goal.returns-clause-component
-returns-clause-component c = whole_is_component
-
-pub returns-clause-tree : goal.returns-clause-tree
-returns-clause-tree c = whole_is_tree_there

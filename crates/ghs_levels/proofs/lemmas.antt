@@ -1,9 +1,0 @@
--- What proofs about levels above this crate may use.
-pub mod KeyOrder
-pub mod Cuts
-pub mod Computing
-pub mod WaysOut
-pub mod FirstPorts
-pub mod Sizes
-pub mod Cores
-pub mod WaysUp

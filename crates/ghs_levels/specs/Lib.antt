@@ -1,5 +1,0 @@
--- To be believed: contracts cite what stands here, and what it is made of.
-pub mod Levels
-pub mod Cores
-pub mod WaysUp
-pub mod Laws

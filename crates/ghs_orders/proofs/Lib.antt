@@ -1,0 +1,26 @@
+-- Serves the proofs: nothing here has to be believed.
+mod Apart
+mod Counting
+mod Examples
+mod Finding
+mod Following
+mod Numbering
+mod Opening
+mod Ranking
+mod Running
+mod Stirring
+mod Marking
+mod Picks
+mod WaitsStirring
+mod TurnCounting
+mod Cutting
+mod TurnFinding
+mod Happened
+mod InOrder
+mod Lasting
+mod Nexts
+mod OneNext
+mod Picked
+mod RoundRobinRunning
+mod Staying
+mod Worlds

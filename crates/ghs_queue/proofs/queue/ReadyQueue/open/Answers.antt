@@ -1,6 +1,0 @@
-use Rattle.std.proofs.Common.{ap}
-use Rattle.ghs_queue.proofs.Moves.{begins}
-use Rattle.ghs_queue.proofs.queue.ReadyQueue.open.Goals as goal
-
-pub another-requires-clause-rule : goal.another-requires-clause-rule
-another-requires-clause-rule c = begins _ _ (ap (λ v. v.opening) c.count_up.ensures.1)

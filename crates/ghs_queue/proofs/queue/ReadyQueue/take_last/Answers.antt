@@ -1,8 +1,0 @@
-use Rattle.ghs_queue.proofs.Moves.{takes, learns, some_share}
-use Rattle.ghs_queue.proofs.queue.ReadyQueue.take_last.Goals as goal
-
-pub pop_as-requires-clause-rule : goal.pop_as-requires-clause-rule
-pop_as-requires-clause-rule g c =
-    let i = c.pass.invariant in
-    let s = some_share _ _ i.1 i.2 in
-    (takes _ _ s, learns _ _ s)

@@ -1,6 +1,0 @@
-use Rattle.ghs_patient.proofs.lemmas.Walks.{IsFrom}
-use Rattle.ghs_waits.specs.Marks.{AreMarksBut}
-use Rattle.ghs_waits.proofs.waiting.Waiting.of.Given as goal
-
-abbrev pub invariant-loop-v : goal.invariant-loop-v
-invariant-loop-v l = AreMarksBut l.world (IsFrom l.v) l.waiting

@@ -1,0 +1,61 @@
+-- Worked examples of a book's words, computed from the definitions.
+use Rattle.std.specs.Prelude.{ℕ, ◌≡◌, false, true, List, [], ◌∷◌, codes, refl, None}
+use Rattle.own_book.specs.Entry.{Entry, entry}
+use Rattle.own_rules.specs.Deed.{goes_on, stops}
+use Rattle.own_rules.specs.Words.{kind_name, mark_in, says_text, variables_in, verdict_word, variables_at, word_said}
+use Rattle.own_rules.specs.declared.node.Reason.TheVariants.{Unanswered}
+use Rattle.own_rules.specs.declared.node.State.TheVariants.{Stopped}
+
+-- a book of the echo wave, of which only the greeting matters here
+abbrev book : List Entry
+book = entry (codes "own 1") 1 (codes "own 1 echo explore() back(level,key?)") ∷ []
+
+-- messages
+
+a_bare_message : says_text book (codes "explore") ≡ record { kind = codes "explore"; carried = [] }
+a_bare_message = refl
+
+a_message_with_values : says_text book (codes "back(3,5:1-2)")
+    ≡ record { kind = codes "back"; carried = word_said (codes "values") (codes "3,5:1-2") ∷ [] }
+a_message_with_values = refl
+
+second_kind : kind_name book 1 ≡ codes "back"
+second_kind = refl
+
+no_third_kind : kind_name book 2 ≡ codes "-"
+no_third_kind = refl
+
+-- variables and marks
+
+two_variables : variables_in (codes "asleep=no;parent=") ≡ word_said (codes "asleep") (codes "no") ∷ word_said (codes "parent") [] ∷ []
+two_variables = refl
+
+a_value_with_a_sign : variables_in (codes "a=b=c") ≡ word_said (codes "a") (codes "b=c") ∷ []
+a_value_with_a_sign = refl
+
+who_has_stopped : variables_at book (Stopped (record { asked = None; reason = Unanswered }))
+    ≡ word_said (codes "stopped") (codes "UNANSWERED") ∷ []
+who_has_stopped = refl
+
+second_mark : mark_in (codes "level=1;marks=branch,rejected") 1 ≡ codes "rejected"
+second_mark = refl
+
+a_port_without_a_mark : mark_in (codes "level=1;marks=branch,rejected") 2 ≡ codes "basic"
+a_port_without_a_mark = refl
+
+no_marks : mark_in (codes "level=1") 0 ≡ codes "basic"
+no_marks = refl
+
+the_first_marks : mark_in (codes "marks=a;marks=b") 0 ≡ codes "a"
+the_first_marks = refl
+
+-- rows
+
+one_waits : verdict_word (goes_on (codes "a=1") true [] 5) ≡ codes "waits"
+one_waits = refl
+
+one_goes_on : verdict_word (goes_on (codes "a=1") false [] 5) ≡ codes "goes_on"
+one_goes_on = refl
+
+one_stops : verdict_word (stops Unanswered) ≡ codes "stopped"
+one_stops = refl

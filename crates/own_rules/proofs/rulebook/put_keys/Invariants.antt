@@ -1,7 +1,0 @@
-use Rattle.std.proofs.Common.{◌≡◌, ◌++◌, take}
-use Rattle.std.specs.List.{flat_map}
-use Rattle.own_rules.specs.Questions.{key_behind_blank}
-use Rattle.own_rules.proofs.rulebook.put_keys.Given as goal
-
-abbrev pub invariant-loop-port : goal.invariant-loop-port
-invariant-loop-port l = l.text.items ≡ l.fn.text.items ++ flat_map key_behind_blank (take l.port-index l.ports)

@@ -1,2 +1,0 @@
--- To be believed: contracts cite what stands here, and what it is made of.
-pub mod Run

@@ -1,5 +1,0 @@
-use Rattle.peer_lifo.proofs.Picking.{lifo_run_is_one}
-use Rattle.peer_lifo.proofs.laws.law_lifo_run.Goals as goal
-
-pub returns : goal.returns
-returns g c = λ r. lifo_run_is_one r

@@ -1,0 +1,7 @@
+use Rattle.std.proofs.Common.{◌≡◌, ◌++◌, take}
+use Rattle.std.specs.List.{flat_map}
+use Rattle.peer_steps.specs.Changes.{gone_change}
+use Rattle.peer_steps.proofs.noting.note_gone.Given as goal
+
+abbrev pub invariant-loop-variable : goal.invariant-loop-variable
+invariant-loop-variable l = l.list.items ≡ l.fn.list.items ++ flat_map (gone_change l.new) (take l.variable-index l.old)
