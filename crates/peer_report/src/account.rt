@@ -35,8 +35,9 @@ pub fn account_text<P: Ends + Spoken>(alloc: Global, net: &Net<P>) -> Result<Vec
     Ok(text)
 }
 
-/// Appends the account of a net, whose messages keep to the bound.
-pub(crate) fn put_account<P: Spoken>(text: &mut Vec<u8>, net: &Net<P>) -> Result<(), AllocError>
+/// Appends the account of a net, as far as its run has come: a line `m` with the messages sent of each kind, and a line
+/// `s SENT BOUND` with their sum, which keeps to the bound. Refusal: out of memory.
+pub fn put_account<P: Spoken>(text: &mut Vec<u8>, net: &Net<P>) -> Result<(), AllocError>
     ensures account { IfOk result (λ _. text.new.items ≡ text.old.items ++ account_lines P.rules P.words.kind P.bound net.now.graph (net_of P.rules net.now)) }
     ensures within { IfOk result (λ _. in_all P.rules (net_of P.rules net.now).sent ≤ P.bound net.now.graph) }
 {
