@@ -4,9 +4,10 @@
 //! Proved: `ended`, of a world, and `net_ended`, of a net, say whether the run has ended, as the protocol means it (`Ends`).
 //! `branches` are the branch links, in key order, and what the protocol finds once the run has ended (`FindsTree`). `report_text`,
 //! of a net, and `run_text`, of a world, are the text of a run that has ended, and are refused exactly where it goes on.
-//! `account_text` is the part without links. `run_by_seed` leaves the world after the seed's run, which has ended or has used its
-//! turns; with turns for the bound and the nodes together no run stops for lack of turns (`law_turns`). `run_followed_by_seed`
-//! does the same while a follower follows the run. `explored_text` prints what `peer_explore` finds.
+//! `account_text` is the part without links, and `put_account` that part of a run that may go on. `run_by_seed` leaves the world
+//! after the seed's run, which has ended or has used its turns; with turns for the bound and the nodes together no run stops for
+//! lack of turns (`law_turns`). `run_followed_by_seed` does the same while a follower follows the run. `explored_text` prints what
+//! `peer_explore` finds.
 //!
 //! `branches` and `net_ended` go over all nodes and links, `ended` asks one number. Next: `peer_machine`, the traits.
 #![tactic(auto)]
