@@ -1,5 +1,5 @@
 -- What a world has run through that was opened and run on by the schedule of a seed.
-use Rattle.std.proofs.Common.{◌≡◌, ◌∙◌, ℕ, inl, List, [], Result, Ok, Err, IfOk, subst, sym}
+use Rattle.std.proofs.Common.{◌≡◌, ◌∙◌, ◌<◌, ◌≤◌, ℕ, Bool, false, true, inl, length, List, [], Result, Ok, Err, IfOk, refl, subst, sym}
 use Rattle.ghs_graph.specs.Graph.{Shape}
 use Rattle.peer_machine.specs.Rules.{Rules}
 use Rattle.peer_machine.specs.Run.{IsRunUnder, net_after}
@@ -8,15 +8,17 @@ use Rattle.peer_network.specs.Network.{network_of}
 use Rattle.peer_network.specs.Wakes.{may_wake}
 use Rattle.peer_network.specs.declared.wake_set.WakeSet.{WakeSet}
 use Rattle.peer_net.specs.NetState.{NetState, net_of, network}
+use Rattle.peer_report.specs.Account.{account_lines}
 use Rattle.peer_runs.specs.Picks.{IsSeededRun}
 use Rattle.peer_runs.specs.Runs.{HasRun, IsAtLimit, IsWhole}
-use Rattle.peer_runs.specs.WorldState.{WorldState, wakers}
+use Rattle.peer_runs.specs.Lawful.{lawful_events}
+use Rattle.peer_runs.specs.WorldState.{WorldState, ready_events, wakers}
 use Rattle.peer_schedule.specs.Schedule.{seeded}
 use Rattle.own_book.specs.Entry.{Entry}
-use Rattle.own_rules.specs.Run.{IsRunOf}
+use Rattle.own_rules.specs.Faults.{faults}
+use Rattle.own_rules.specs.Run.{IsRunOf, IsTold, StandsSo}
 use Rattle.own_rules.specs.Stops.{lacking, stops_in}
 use Rattle.own_rules.specs.declared.node.Node.{Node}
-use Rattle.own_rules.specs.declared.node.Stop.{Stop}
 use Rattle.own_rules.specs.declared.run.BookRun.{BookRun}
 
 module _ {S M : Type 0} (r : Rules S M) (seed turns : ℕ) (g : Shape) (wake : WakeSet) (old new : WorldState) (words after : List ℕ)
@@ -41,22 +43,42 @@ module _ {S M : Type 0} (r : Rules S M) (seed turns : ℕ) (g : Shape) (wake : W
   pub whole_at_limit : IsAtLimit r turns new → IsWhole r turns old new words after
   whole_at_limit limit = record { picked = ran.picked; over = inl limit.spent }
 
-module _ {M : Type 0} (r : Rules Node M) (n : NetState) (g : Shape) (graph : n.graph ≡ g) where
-  stops_by : (es : List Event) (xs : List (ℕ × Stop)) → es ≡ n.trace → xs ≡ stops_in (net_of r n).node n.graph.nodes →
-      xs ≡ stops_in (net_after r g es).node g.nodes
-  stops_by es xs same is =
-      subst (λ h. xs ≡ stops_in (net_after r h es).node h.nodes) graph
-      (subst (λ ts. xs ≡ stops_in (net_after r n.graph ts).node n.graph.nodes) (sym same) is)
+module _ {S M : Type 0} (r : Rules S M) (turns : ℕ) (g : Shape) (wake : WakeSet) (new : WorldState) (graph : new.net.graph ≡ g)
+    (woken : new.wake ≡ wake) (es : List Event) (same : es ≡ new.net.trace) where
+  -- what is ready in the world is lawful behind the events
+  ready_here : ready_events r new ≡ lawful_events r (may_wake g wake) g es
+  ready_here =
+      subst (λ ts. ready_events r new ≡ lawful_events r (may_wake g wake) g ts) (sym same)
+      (subst (λ h. ready_events r new ≡ lawful_events r (may_wake h wake) h new.net.trace) graph
+      (subst (λ k. ready_events r new ≡ lawful_events r (may_wake new.net.graph k) new.net.graph new.net.trace) woken refl))
 
-  -- where nodes have stopped in a net, they have after these events of the graph
-  pub stops_of_run : {E : Type 0} (Q : BookRun → Type 0) (x : Result BookRun E) → IfOk x (λ it. (it.events.items ≡ n.trace) × Q it) →
-      IfOk x (λ it. it.stops.items ≡ stops_in (net_of r n).node n.graph.nodes) →
-      IfOk x (λ it. it.stops.items ≡ stops_in (net_after r g it.events.items).node g.nodes)
-  stops_of_run Q (Ok it) same is = stops_by it.events.items it.stops.items same.0 is
-  stops_of_run Q (Err e) same is = tt
+  pub stands_over : (at : Bool) → at ≡ false → ready_events r new ≡ [] → StandsSo r turns g wake es at
+  stands_over at is over = subst (λ b. StandsSo r turns g wake es b) (sym is) (sym ready_here ∙ over)
 
-  -- and the book lacks what it lacks there
-  pub lacking_of_run : {E : Type 0} (book : List Entry) (x : Result BookRun E) →
-      IfOk x (λ it. it.lacking.items ≡ lacking book n.graph it.stops.items) → IfOk x (λ it. it.lacking.items ≡ lacking book g it.stops.items)
-  lacking_of_run book (Ok it) is = subst (λ h. it.lacking.items ≡ lacking book h it.stops.items) graph is
-  lacking_of_run book (Err e) is = tt
+  pub stands_at_limit : (at : Bool) → at ≡ true → IsAtLimit r turns new → StandsSo r turns g wake es at
+  stands_at_limit at is limit =
+      subst (λ b. StandsSo r turns g wake es b) (sym is)
+      (subst (λ ts. turns ≤ length ts) (sym same) limit.spent, subst (λ xs. 0 < length xs) ready_here limit.ready)
+
+-- what holds of a result by two clauses
+pub both : {T E : Type 0} (x : Result T E) (P Q : T → Type 0) → IfOk x P → IfOk x Q → IfOk x (λ it. P it × Q it)
+both (Ok it) P Q p q = (p, q)
+both (Err e) P Q p q = tt
+
+-- what is told of a world's run is told of these events of the graph
+pub told_of_run : {M E : Type 0} (r : Rules Node M) (name : ℕ → List ℕ) (bound : Shape → ℕ) (book : List Entry) (h g : Shape) → h ≡ g →
+    (x : Result BookRun E) → IfOk x (IsTold r name bound book h) → IfOk x (IsTold r name bound book g)
+told_of_run r name bound book h g same (Ok it) told = subst (λ k. IsTold r name bound book k it) same told
+told_of_run r name bound book h g same (Err e) told = tt
+
+-- what is told of a net is told of its graph and events
+pub told_here : {M : Type 0} (r : Rules Node M) (name : ℕ → List ℕ) (bound : Shape → ℕ) (book : List Entry) (n : NetState) (ran : BookRun) →
+    ran.events.items ≡ n.trace → ran.stops.items ≡ stops_in (net_of r n).node n.graph.nodes →
+    ran.lacking.items ≡ lacking book n.graph ran.stops.items → ran.faults.items ≡ faults book n.graph ran.stops.items →
+    ran.account.items ≡ account_lines r name bound n.graph (net_of r n) → IsTold r name bound book n.graph ran
+told_here r name bound book n ran same stops lacking faults account = record {
+  stops = subst (λ ts. ran.stops.items ≡ stops_in (net_after r n.graph ts).node n.graph.nodes) (sym same) stops;
+  lacking = lacking;
+  faults = faults;
+  account = subst (λ ts. ran.account.items ≡ account_lines r name bound n.graph (net_after r n.graph ts)) (sym same) account;
+}

@@ -11,4 +11,5 @@ pub mod Proved
 pub mod Laws
 pub mod Run
 pub mod Words
+pub mod Faults
 pub mod Kept

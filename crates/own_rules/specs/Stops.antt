@@ -5,10 +5,7 @@ use Rattle.ghs_graph.specs.Graph.{Shape}
 use Rattle.ghs_graph.specs.Ports.{ports_of}
 use Rattle.own_book.specs.Asking.{open_text}
 use Rattle.own_book.specs.Entry.{Entry, told_in}
-use Rattle.peer_machine.specs.Run.{net_after}
-use Rattle.peer_network.specs.declared.event.Event.{Event}
 use Rattle.own_rules.specs.Questions.{lookup_text}
-use Rattle.own_rules.specs.Rules.{rules_of}
 use Rattle.own_rules.specs.Texts.{Text, texts_of}
 use Rattle.own_rules.specs.declared.node.Lookup.{Lookup}
 use Rattle.own_rules.specs.declared.node.Node.{Node}
@@ -31,10 +28,6 @@ stops_in node (suc n) = stops_in node n ++ stop_in (suc n) (node (suc n)).state
 -- each of these is a node of 1 to n
 abbrev pub AreWithin : ℕ → List (ℕ × Stop) → Type 0
 AreWithin n stops = All (λ (s : ℕ × Stop). (1 ≤ s.0) × (s.0 ≤ n)) stops
-
--- of a run by a book
-abbrev pub stops_after : List Entry → ℕ → Shape → List Event → List (ℕ × Stop)
-stops_after book most g events = stops_in (net_after (rules_of book most) g events).node g.nodes
 
 -- the question after the greeting, by what the book says to it
 abbrev pub greeting_line : Option (ℕ × Text) → Text

@@ -11,16 +11,17 @@
 //! found by numbers; contracts see the entries of the book alone. `Told` is an `impl Protocol` whose rules are those of the book
 //! that a type names (`Chosen`), which a call picks when a run begins: `run_book` gives the events that a seed's schedule picks
 //! of a graph by the rules of this very book, to the end or to the last turn (`IsRunBy`), and the code that runs it knows no book;
-//! it also names the nodes that have stopped then (`stops`), and the questions that the book lacks (`lacking`). `Told` is `Spoken`:
-//! a message has its kind and all that stands in its brackets, a node the variables of its state and the words of `marks`, and the
-//! row says what the book did.
+//! what is told of it is exact (`IsTold`): the nodes that have stopped then, the questions that the book lacks, what is said of nodes
+//! that have stopped by an answer, and how many messages were sent. `Told` is `Spoken`: a message has its kind and all that stands in
+//! its brackets, a node the variables of its state and the words of `marks`, and the row says what the book did.
 //!
 //! Not claimed: that the book is the answers of a program. Questions are compared field by field: that the entry that answers is
 //! the one whose question has the very text that is asked, isn't proved here. Read `specs/Rules.antt` and `specs/Deed.antt` first,
-//! then `specs/Run.antt`, `specs/Stops.antt` and `specs/Words.antt`.
+//! then `specs/Run.antt`, `specs/Stops.antt`, `specs/Faults.antt` and `specs/Words.antt`.
 #![tactic(auto)]
 
 mod deed;
+pub mod faults;
 pub mod laws;
 pub mod node;
 mod places;

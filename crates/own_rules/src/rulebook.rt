@@ -82,12 +82,12 @@ impl Rulebook {
         self.texts.text(number)
     }
 
-    /// What the book says to the question after the greeting, with the number of its line.
-    pub(crate) fn greeting(&self) -> Option<(u64, &[u8])>
-        ensures some { IfSome result (λ told. told_in self.now (codes "own 1") ≡ Some (told.0, told.1.now)) }
-        ensures none { IfNone result (told_in self.now (codes "own 1") ≡ None) }
+    /// What the book says to a question, with the number of its line.
+    pub(crate) fn told(&self, question: &[u8]) -> Option<(u64, &[u8])>
+        ensures some { IfSome result (λ told. told_in self.now question.now ≡ Some (told.0, told.1.now)) }
+        ensures none { IfNone result (told_in self.now question.now ≡ None) }
     {
-        self.book.told(b"own 1")
+        self.book.told(question)
     }
 
     /// What the book answers to a question.

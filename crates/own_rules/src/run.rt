@@ -1,40 +1,49 @@
 //! Runs by a book.
-ghost use Rattle.own_rules.specs.Rules.{rules_of};
 ghost use Rattle.own_rules.specs.declared.protocol.TheConstants.{RUN_MESSAGES};
-ghost use Rattle.own_rules.specs.Run.{IsRunBy, IsRunOf};
-ghost use Rattle.own_rules.specs.Stops.{lacking, stops_after, stops_in};
-ghost use Rattle.peer_machine.specs.Run.{IsRunUnder, net_after};
+ghost use Rattle.own_rules.specs.Run.{IsRunBy, IsRunOf, IsTold, IsToldBy, StandsBy, StandsSo};
+ghost use Rattle.peer_machine.specs.Run.{IsRunUnder};
 ghost use Rattle.peer_net.specs.NetState.{net_of, network};
+ghost use Rattle.peer_report.specs.Account.{account_lines};
 ghost use Rattle.peer_runs.specs.WorldState.{wakers};
 ghost use Rattle.std.specs.Prelude.{IfOk, ◌≡◌};
 
+use crate::faults::faults_text;
 use crate::node::{Node, Stop};
 use crate::protocol::{Chosen, Playing, RUN_MESSAGES, Told};
 use crate::rulebook::Rulebook;
 use crate::stops::{lacking_text, stops_of};
 use ghs_graph::graph::Graph;
 use peer_machine::protocol::Protocol;
+use peer_net::net::Net;
 use peer_network::event::Event;
 use peer_network::wake_set::WakeSet;
+use peer_report::account::put_account;
 use peer_runs::fault::RunFault;
 use peer_runs::run::run_seeded;
 use peer_runs::world::World;
 use peer_schedule::schedule::Schedule;
+use peer_words::spoken::Spoken;
 use std::alloc::{AllocError, Global};
 use std::marker::Brand;
 
-/// A run by a book.
+/// A run by a book, and what is told of it.
 #[derive(Drop)]
 pub struct BookRun {
     pub events: Vec<Event>,
+    /// Whether its turns are used while an event may still happen.
+    pub at_limit: bool,
     /// The nodes that have stopped, by rising number, each with where and why.
     pub stops: Vec<(u32, Stop)>,
     /// The questions that the book lacks, one a line: that after the greeting, then those at which nodes have stopped.
     pub lacking: Vec<u8>,
+    /// What is said of a greeting that is none, and of the nodes that have stopped by an answer.
+    pub faults: Vec<u8>,
+    /// The lines `m` and `s`: how many messages were sent of each kind, and of all, with the bound on them.
+    pub account: Vec<u8>,
 }
 
-/// The run by a book that a seed picks, to its end or to its last turn, and which nodes have stopped then. Each node sends and
-/// defers `RUN_MESSAGES` messages at most. Refusal: out of memory.
+/// The run by a book that a seed picks, to its end or to its last turn, and what is told of it. Each node sends and defers
+/// `RUN_MESSAGES` messages at most. Refusal: out of memory.
 ///
 /// ```text
 /// let ran = run_book(alloc, &rules, graph, WakeSet::All, 7, 1 << 40)?;
@@ -50,8 +59,8 @@ pub fn run_book(
     turns: u64,
 ) -> Result<BookRun, AllocError>
     ensures run { IfOk result (λ ran. IsRunBy rules.now RUN_MESSAGES seed turns graph wake ran.events.items) }
-    ensures stops { IfOk result (λ ran. ran.stops.items ≡ stops_after rules.now RUN_MESSAGES graph ran.events.items) }
-    ensures lacking { IfOk result (λ ran. ran.lacking.items ≡ lacking rules.now graph ran.stops.items) }
+    ensures stands { IfOk result (λ ran. StandsBy rules.now RUN_MESSAGES turns graph wake ran.events.items ran.at_limit) }
+    ensures told { IfOk result (IsToldBy rules.now RUN_MESSAGES graph) }
 {
     run_by::<Brand>(alloc, rules, graph, wake, seed, turns)
 }
@@ -68,8 +77,8 @@ fn run_by<'a, J: Chosen>(
     requires book { rules.now ≡ J.book }
     requires most { RUN_MESSAGES ≡ J.most }
     ensures run { IfOk result (λ ran. IsRunBy J.book J.most seed turns graph wake ran.events.items) }
-    ensures stops { IfOk result (λ ran. ran.stops.items ≡ stops_after J.book J.most graph ran.events.items) }
-    ensures lacking { IfOk result (λ ran. ran.lacking.items ≡ lacking J.book graph ran.stops.items) }
+    ensures stands { IfOk result (λ ran. StandsBy J.book J.most turns graph wake ran.events.items ran.at_limit) }
+    ensures told { IfOk result (IsToldBy J.book J.most graph) }
 {
     let playing = Playing {
         rules,
@@ -79,7 +88,7 @@ fn run_by<'a, J: Chosen>(
 }
 
 /// The same, by any protocol.
-fn run_under<P: Protocol<Node = Node>>(
+fn run_under<P: Spoken + Protocol<Node = Node>>(
     alloc: Global,
     setting: P::Setting,
     rules: &Rulebook,
@@ -90,36 +99,51 @@ fn run_under<P: Protocol<Node = Node>>(
 ) -> Result<BookRun, AllocError>
     requires { P.goes_by setting }
     ensures run { IfOk result (λ ran. IsRunOf P.rules seed turns graph wake ran.events.items) }
-    ensures stops { IfOk result (λ ran. ran.stops.items ≡ stops_in (net_after P.rules graph ran.events.items).node graph.nodes) }
-    ensures lacking { IfOk result (λ ran. ran.lacking.items ≡ lacking rules.now graph ran.stops.items) }
+    ensures stands { IfOk result (λ ran. StandsSo P.rules turns graph wake ran.events.items ran.at_limit) }
+    ensures told { IfOk result (IsTold P.rules P.words.kind P.bound rules.now graph) }
 {
     let Ok(mut world) = World::<P>::open(alloc, setting, graph, wake) else {
         return Err(AllocError {});
     };
     match run_seeded(alloc, &mut world, &mut Schedule::seeded(seed), turns) {
-        Ok(()) => ran(alloc, rules, &world),
-        Err(RunFault::TurnLimit) => ran(alloc, rules, &world),
+        Ok(()) => ran(alloc, rules, &world, false),
+        Err(RunFault::TurnLimit) => ran(alloc, rules, &world, true),
         Err(RunFault::Memory) => Err(AllocError {}),
     }
 }
 
-/// What has happened in a world. Refusal: out of memory.
-fn ran<P: Protocol<Node = Node>>(
+/// What has happened in a world, and what is told of it. Refusal: out of memory.
+fn ran<P: Spoken + Protocol<Node = Node>>(
     alloc: Global,
     rules: &Rulebook,
     world: &World<P>,
+    at_limit: bool,
 ) -> Result<BookRun, AllocError>
     ensures run { IfOk result (λ ran. (ran.events.items ≡ world.now.net.trace) × IsRunUnder P.rules (wakers world.now) (network world.now.net) ran.events.items) }
-    ensures stops { IfOk result (λ ran. ran.stops.items ≡ stops_in (net_of P.rules world.now.net).node world.now.net.graph.nodes) }
-    ensures lacking { IfOk result (λ ran. ran.lacking.items ≡ lacking rules.now world.now.net.graph ran.stops.items) }
+    ensures limit { IfOk result (λ ran. ran.at_limit ≡ at_limit) }
+    ensures told { IfOk result (IsTold P.rules P.words.kind P.bound rules.now world.now.net.graph) }
 {
     let net = world.net();
     let events = Vec::from_slice(alloc, net.trace())?;
     let stops = stops_of(alloc, net)?;
     let lacking = lacking_text(alloc, rules, net.graph(), &stops)?;
+    let faults = faults_text(alloc, rules, net.graph(), &stops)?;
+    let account = account_of(alloc, net)?;
     Ok(BookRun {
         events,
+        at_limit,
         stops,
         lacking,
+        faults,
+        account,
     })
+}
+
+/// The account of a net's messages. Refusal: out of memory.
+fn account_of<P: Spoken>(alloc: Global, net: &Net<P>) -> Result<Vec<u8>, AllocError>
+    ensures { IfOk result (λ text. text.items ≡ account_lines P.rules P.words.kind P.bound net.now.graph (net_of P.rules net.now)) }
+{
+    let mut text = Vec::new(alloc);
+    put_account(&mut text, net)?;
+    Ok(text)
 }

@@ -177,7 +177,8 @@ fn variable(part: &[u8]) -> Said<'_>
     }
 }
 
-fn reason_word(reason: Reason) -> Word<'static>
+/// Why a node has stopped.
+pub(crate) fn reason_word(reason: Reason) -> Word<'static>
     ensures { result ≡ reason_word reason }
 {
     match reason {

@@ -73,7 +73,7 @@ pub fn lacking_text(
 fn put_greeting(text: &mut Vec<u8>, rules: &Rulebook) -> Result<(), AllocError>
     ensures { IfOk result (λ _. text.new.items ≡ text.old.items ++ greeting_line (told_in rules.now (codes "own 1"))) }
 {
-    match rules.greeting() {
+    match rules.told(b"own 1") {
         Some(_) => Ok(()),
         None => text.extend_from_slice(b"own 1\n"),
     }
@@ -102,7 +102,7 @@ fn put_stop(
 }
 
 /// A question of a node; none stands for its opening.
-fn put_question(
+pub(crate) fn put_question(
     text: &mut Vec<u8>,
     rules: &Rulebook,
     graph: &Graph,
