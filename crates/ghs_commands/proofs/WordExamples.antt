@@ -1,12 +1,12 @@
 -- Command lines, computed from the definitions.
-use Rattle.std.proofs.Common.{◌≡◌, codes, List, Some, None, [], ◌∷◌, refl}
+use Rattle.std.proofs.Common.{◌≡◌, codes, false, true, List, Some, None, [], ◌∷◌, refl}
 use Rattle.clap.specs.declared.error.kind.ErrorKind.TheVariants as kind
 use Rattle.clap.proofs.OnLiterals.{clap_on_literals}
 use Rattle.clap.specs.Words.{Text}
 use Rattle.ghs_commands.specs.Grammar.{program}
 use Rattle.peer_trace.specs.declared.protocol.Protocol.TheVariants.{Boruvka, Ghs}
 use Rattle.ghs_commands.specs.Wakers.{listed}
-use Rattle.ghs_commands.specs.Job.{command_in, kinds_of, name_in, protocols_in, value_in}
+use Rattle.ghs_commands.specs.Job.{command_in, kinds_of, name_in, protocols_in, runs_own, value_in}
 
 tree-taken : kinds_of (codes "tree" ∷ []) ≡ []
 unfolding program clap_on_literals
@@ -128,6 +128,78 @@ two_runs_in_step-taken = refl
 echo-taken : kinds_of (codes "explore" ∷ codes "--protocol" ∷ codes "echo" ∷ codes "map.gr" ∷ []) ≡ []
 unfolding program clap_on_literals
 echo-taken = refl
+
+-- a run by a user's own protocol, and what else is asked for
+abbrev by_own : List Text → List Text
+by_own words = codes "run" ∷ codes "--protocol" ∷ codes "own" ∷ words
+
+-- it, by a book
+abbrev by_book : List Text → List Text
+by_book words = by_own (codes "--book" ∷ codes "b.txt" ∷ words)
+
+own-taken : kinds_of (by_book []) ≡ []
+unfolding program clap_on_literals
+own-taken = refl
+
+own-asked : runs_own (command_in (by_book [])) ≡ true
+unfolding program clap_on_literals
+own-asked = refl
+
+own-not_asked : runs_own (command_in (codes "run" ∷ codes "--protocol" ∷ codes "echo" ∷ [])) ≡ false
+unfolding program clap_on_literals
+own-not_asked = refl
+
+book-named : value_in (codes "book") (command_in (by_book [])) ≡ Some (codes "b.txt")
+unfolding program clap_on_literals
+book-named = refl
+
+seed_of_own-taken :
+    kinds_of (by_book (codes "--seed" ∷ codes "7" ∷ codes "--wake" ∷ codes "first" ∷ codes "--turns" ∷ codes "9" ∷ codes "map.gr" ∷ []))
+    ≡ []
+unfolding program clap_on_literals
+seed_of_own-taken = refl
+
+no_book-refused : kinds_of (by_own []) ≡ kind.InvalidValue ∷ []
+unfolding program clap_on_literals
+no_book-refused = refl
+
+threads_of_own-refused : kinds_of (by_book (codes "--workers" ∷ codes "2" ∷ [])) ≡ kind.InvalidValue ∷ []
+unfolding program clap_on_literals
+threads_of_own-refused = refl
+
+last_of_own-refused : kinds_of (by_book (codes "--schedule" ∷ codes "lifo" ∷ [])) ≡ kind.InvalidValue ∷ []
+unfolding program clap_on_literals
+last_of_own-refused = refl
+
+events_of_own-refused : kinds_of (by_book (codes "--print" ∷ codes "trace" ∷ [])) ≡ kind.InvalidValue ∷ []
+unfolding program clap_on_literals
+events_of_own-refused = refl
+
+core_of_own-refused : kinds_of (by_book (codes "--core" ∷ [])) ≡ kind.InvalidValue ∷ []
+unfolding program clap_on_literals
+core_of_own-refused = refl
+
+own_in_all_runs-refused :
+    kinds_of (codes "explore" ∷ codes "--protocol" ∷ codes "own" ∷ codes "--book" ∷ codes "b.txt" ∷ []) ≡ kind.InvalidValue ∷ []
+unfolding program clap_on_literals
+own_in_all_runs-refused = refl
+
+book_of_ghs-refused : kinds_of (codes "run" ∷ codes "--book" ∷ codes "b.txt" ∷ []) ≡ kind.InvalidValue ∷ []
+unfolding program clap_on_literals
+book_of_ghs-refused = refl
+
+book_of_echo-refused :
+    kinds_of (codes "run" ∷ codes "--protocol" ∷ codes "echo" ∷ codes "--book" ∷ codes "b.txt" ∷ []) ≡ kind.InvalidValue ∷ []
+unfolding program clap_on_literals
+book_of_echo-refused = refl
+
+book_in_all_runs-taken : kinds_of (codes "explore" ∷ codes "--book" ∷ codes "b.txt" ∷ []) ≡ []
+unfolding program clap_on_literals
+book_in_all_runs-taken = refl
+
+judged-taken : kinds_of (codes "judge" ∷ codes "--book" ∷ codes "b.txt" ∷ codes "run.trace" ∷ []) ≡ []
+unfolding program clap_on_literals
+judged-taken = refl
 
 -- a sweep by Borůvka in step, and what else is asked for
 abbrev in_step : List Text → List Text

@@ -115,16 +115,20 @@ core_rule = flag_rule (codes "core")
 abbrev pub wake_rule : Rule
 wake_rule = option_rule (codes "wake") (codes "all")
 
+-- `--book` where it may be left out: the book by whose rules the nodes of a run go, or that all runs are compared with
+abbrev pub own_rule : Rule
+own_rule = record (new_rule (codes "book")) { long = Some (codes "book") }
+
 -- `tree [FILE] [--core]`
 abbrev pub tree_command : App
 tree_command = with_rules (file_rule ∷ core_rule ∷ []) (new_app (codes "tree"))
 
--- `run [FILE] [--protocol ghs|boruvka|echo] [--seed S] [--schedule seeded|patient|rounds|waits|lifo|round-robin] [--workers W]
--- [--wake all|first|V,..] [--turns T] [--print report|trace|time] [--core] [--progress] [--tally]`
+-- `run [FILE] [--protocol ghs|boruvka|echo|own] [--book BOOK] [--seed S] [--schedule seeded|patient|rounds|waits|lifo|round-robin]
+-- [--workers W] [--wake all|first|V,..] [--turns T] [--print report|trace|time] [--core] [--progress] [--tally]`
 abbrev pub run_command : App
 run_command =
     with_rules
-    (file_rule ∷ protocol_rule ∷ seed_rule ∷ schedule_rule ∷ workers_rule ∷ wake_rule
+    (file_rule ∷ protocol_rule ∷ own_rule ∷ seed_rule ∷ schedule_rule ∷ workers_rule ∷ wake_rule
     ∷ turns_rule ∷ print_rule ∷ core_rule ∷ progress_rule ∷ tally_rule ∷ [])
     (new_app (codes "run"))
 
@@ -198,10 +202,6 @@ found_rule = record (new_rule (codes "found")) { long = Some (codes "print"); de
 -- `--end`: the number of the end whose run is printed
 abbrev pub end_rule : Rule
 end_rule = option_rule (codes "end") (codes "1")
-
--- `--book`: the book that all runs are compared with
-abbrev pub own_rule : Rule
-own_rule = record (new_rule (codes "book")) { long = Some (codes "book") }
 
 -- `explore [FILE] [--protocol ghs|boruvka|echo] [--book BOOK] [--wake all|first|V,..] [--limit STATES] [--print report|trace] [--end K]
 -- [--progress]`

@@ -167,7 +167,16 @@ pub record AreOptions (command : Used) (o : RunOptions) : Type 0 where
   pub progress : IsToldOf command o.progress
   pub tally : IsTallyOf command o.tally
 
--- the protocol that `--protocol` names; it names one that there is, or the words are refused, and a command without it is of GHS
+-- only a run has something to print of it
+abbrev pub is_run : Used → Bool
+is_run command = not (is_none (value_in (codes "print") command))
+
+-- a run goes by a user's own protocol, whose rules are the lines of a book
+abbrev pub runs_own : Used → Bool
+runs_own command = is_run command && is_said (codes "own") (value_in (codes "protocol") command)
+
+-- the protocol that `--protocol` names; it names one that there is, or the words are refused, and a command without it is of GHS, as one
+-- by a user's own, whose book counts in its place
 abbrev pub protocol_in : Used → Protocol
 protocol_in command = unwrap_or (option_and_then protocol_named (value_in (codes "protocol") command)) Ghs
 
@@ -406,13 +415,40 @@ fits_every command = runs_so command && sweeps_so command
 abbrev pub is_of_ghs : Used → Bool
 is_of_ghs command = are_ghs (value_in (codes "protocol") command) && are_ghs (value_in (codes "protocols") command)
 
+-- a run goes by a book
+abbrev pub runs_by_book : Used → Bool
+runs_by_book command = is_run command && not (is_none (value_in (codes "book") command))
+
+-- a protocol that there is has rules of its own, so no run of it goes by a book
+abbrev pub fits_known : Used → Bool
+fits_known command = not (runs_by_book command) && (is_of_ghs command || fits_every command)
+
+-- how a network is run goes with a user's own protocol: no threads, the schedule that picks among all events alone, and what is printed is
+-- the report alone, without cores; nothing is told of the run
+abbrev pub goes_with_own : Used → Bool
+goes_with_own command =
+    is_number 0 0 (value_in (codes "workers") command)
+    && is_among (codes "seeded" ∷ []) (value_in (codes "schedule") command)
+    && is_among (codes "report" ∷ []) (value_in (codes "print") command)
+    && not (is_said (codes "true") (value_in (codes "core") command))
+    && not (is_said (codes "true") (value_in (codes "progress") command))
+    && not (is_said (codes "true") (value_in (codes "tally") command))
+
+-- a user's own has to have a book
+abbrev pub fits_own : Used → Bool
+fits_own command = runs_by_book command && goes_with_own command
+
 abbrev pub fits_protocol : Used → Bool
-fits_protocol command = is_of_ghs command || fits_every command
+fits_protocol command = if runs_own command then fits_own command else fits_known command
+
+-- it names a protocol that there is, or as a run a user's own
+abbrev pub names_protocol : Used → Bool
+names_protocol command = runs_own command || is_protocol (value_in (codes "protocol") command)
 
 -- there is such a protocol, or are such protocols of a sweep, and all that is asked for goes with them
 abbrev pub has_protocol : Used → Bool
 has_protocol command =
-    is_protocol (value_in (codes "protocol") command)
+    names_protocol command
     && are_protocols (value_in (codes "protocols") command)
     && fits_protocol command
 

@@ -9,7 +9,7 @@ use clap::{Arg, ArgAction, Command};
 use std::alloc::{AllocError, Global};
 
 /// The program's version, and by which kit its proofs hold.
-pub const VERSION: &str = "2.2.0, proved with rattle-kit-13b logic dac8208d650f15bf";
+pub const VERSION: &str = "2.3.0, proved with rattle-kit-13b logic dac8208d650f15bf";
 
 /// The program's commands, with their help.
 #[tactic(auto, unfolding(crate::specs::Grammar::program))]
@@ -78,6 +78,7 @@ fn run<'a>(alloc: Global) -> Result<Command<'a>, AllocError>
     let arguments = vec![in alloc;
         file(alloc),
         protocol(alloc),
+        rule_book(alloc),
         seed(alloc),
         schedule(alloc),
         workers(alloc),
@@ -366,6 +367,14 @@ fn own<'a>(alloc: Global) -> Arg<'a>
     valued(alloc, "book", "book").help(
         "The file of a book, as of ghs judge: compares a node of your own with the protocol in all runs, and prints that alone",
     )
+}
+
+/// The book's file, where it has the rules of a protocol of the user's own.
+fn rule_book<'a>(alloc: Global) -> Arg<'a>
+    ensures local { result.global ≡ false }
+    ensures rule { rule_of result ≡ own_rule }
+{
+    valued(alloc, "book", "book").help("The book by which the nodes go, with --protocol own")
 }
 
 /// The number of the first event that is shown.

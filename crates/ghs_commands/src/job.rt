@@ -159,7 +159,7 @@ pub enum Task {
     Tree {
         core: bool,
     },
-    /// Run a network.
+    /// Run a network; where the job has a book, by that, and `protocol` says nothing.
     Run {
         protocol: Protocol,
         options: RunOptions,
@@ -201,7 +201,8 @@ pub enum Task {
 /// What a command line asks for: the file of the graph (standard input where there is none, or it is `-`), the file of a
 /// stored trace (standard input where it is `-`), the files of the networks of a sweep whose lines begin with names (none
 /// where one network is swept without its name; one at most is `-`, standard input), the file of the book by which a stored
-/// run is judged (none where it's only played again), and the task.
+/// run is judged (none where it's only played again), or the nodes of a run go, or with which all runs are compared (none
+/// where they are only explored), and the task.
 #[derive(Debug, Drop)]
 pub struct Job {
     pub graph: Option<String>,

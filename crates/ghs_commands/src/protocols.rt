@@ -1,11 +1,11 @@
 //! The protocol that a network follows, or of a sweep the protocols, read and refused.
 ghost use Rattle.clap.specs.Words.{subcommand_rows_of};
-ghost use Rattle.ghs_commands.specs.Job.{IsRefused, fits_protocol, has_protocol, is_of_ghs, protocol_in, protocols_in, value_in};
+ghost use Rattle.ghs_commands.specs.Job.{IsRefused, fits_known, fits_own, fits_protocol, has_protocol, is_of_ghs, names_protocol, protocol_in, protocols_in};
 ghost use Rattle.ghs_commands.specs.Protocols.{are_distinct, are_ghs, are_known, are_protocols, is_protocol, names_of, protocol_by, protocols_of};
 ghost use Rattle.std.specs.Option.{option_map};
 ghost use Rattle.std.specs.Prelude.{◌≡◌, IfErr, IfOk, OnErr, OnOk, codes, false, is_none, true};
 
-use crate::fitting::stranger_in;
+use crate::fitting::{is_run, runs_by_book, runs_own, stranger_in, stranger_to_own};
 use crate::job::{JobFault, value_of};
 use crate::values::unknown_choice;
 use clap::ArgMatches;
@@ -14,6 +14,9 @@ use std::alloc::{AllocError, Global};
 
 /// The names of the protocols that there are.
 const NAMES: &[&str] = &["ghs", "boruvka", "echo"];
+
+/// The names that a run may have: those, and that of a user's own.
+const NAMES_OF_RUN: &[&str] = &["ghs", "boruvka", "echo", "own"];
 
 /// Which protocol the nodes follow.
 pub(crate) fn protocol_of<'a>(matches: &ArgMatches<'a>) -> Protocol
@@ -66,17 +69,18 @@ pub(crate) fn check_protocol<'a>(alloc: Global, matches: &ArgMatches<'a>) -> Res
     check_fit(alloc, matches)
 }
 
-/// Whether there is such a protocol.
+/// Whether there is such a protocol, or the command is a run by a user's own.
 fn check_name<'a>(alloc: Global, matches: &ArgMatches<'a>) -> Result<(), JobFault>
-    ensures ok { OnOk result (is_protocol (value_in (codes "protocol") (subcommand_rows_of matches.now)) ≡ true) }
-    ensures err { OnErr result (is_protocol (value_in (codes "protocol") (subcommand_rows_of matches.now)) ≡ false) }
+    ensures ok { OnOk result (names_protocol (subcommand_rows_of matches.now) ≡ true) }
+    ensures err { OnErr result (names_protocol (subcommand_rows_of matches.now) ≡ false) }
     ensures fault { IfErr result IsRefused }
 {
     let value = value_of(matches, "protocol");
-    if is_protocol(value) {
+    if runs_own(matches) || is_protocol(value) {
         Ok(())
     } else {
-        Err(unknown_choice(alloc, "protocol", value, NAMES))
+        let names = if is_run(matches) { NAMES_OF_RUN } else { NAMES };
+        Err(unknown_choice(alloc, "protocol", value, names))
     }
 }
 
@@ -127,6 +131,38 @@ fn check_fit<'a>(alloc: Global, matches: &ArgMatches<'a>) -> Result<(), JobFault
     ensures err { OnErr result (fits_protocol (subcommand_rows_of matches.now) ≡ false) }
     ensures fault { IfErr result IsRefused }
 {
+    if runs_own(matches) {
+        check_own(alloc, matches)
+    } else {
+        check_known(alloc, matches)
+    }
+}
+
+/// Whether a run by a user's own protocol has a book, and all that is asked for goes with it.
+fn check_own<'a>(alloc: Global, matches: &ArgMatches<'a>) -> Result<(), JobFault>
+    ensures ok { OnOk result (fits_own (subcommand_rows_of matches.now) ≡ true) }
+    ensures err { OnErr result (fits_own (subcommand_rows_of matches.now) ≡ false) }
+    ensures fault { IfErr result IsRefused }
+{
+    if !runs_by_book(matches) {
+        return Err(no_book(alloc));
+    }
+    match stranger_to_own(matches) {
+        Some(argument) => Err(no_such_run(alloc, "own", argument)),
+        None => Ok(()),
+    }
+}
+
+/// Whether all that is asked for goes with protocols that there are; a run of theirs goes by no book.
+fn check_known<'a>(alloc: Global, matches: &ArgMatches<'a>) -> Result<(), JobFault>
+    ensures ok { OnOk result (fits_known (subcommand_rows_of matches.now) ≡ true) }
+    ensures err { OnErr result (fits_known (subcommand_rows_of matches.now) ≡ false) }
+    ensures fault { IfErr result IsRefused }
+{
+    if runs_by_book(matches) {
+        let name = value_of(matches, "protocol").unwrap_or("ghs");
+        return Err(no_such_run(alloc, name, "--book <book>"));
+    }
     match (other_of(matches), stranger_in(matches)) {
         (Some(name), Some(argument)) => Err(no_such_run(alloc, name, argument)),
         _ => Ok(()),
@@ -169,6 +205,19 @@ fn named_twice(alloc: Global, value: &str, name: &str) -> JobFault
 {
     match format!(in alloc;
         "error: invalid value '{value}' for '--protocol <protocol>': {name} is named twice\n\nFor more information, try '--help'.\n"
+    ) {
+        Ok(text) => JobFault::Refused(text),
+        Err(_) => JobFault::Memory,
+    }
+}
+
+/// What is said of a user's own protocol without its book, in the shape of `clap`'s words.
+fn no_book(alloc: Global) -> JobFault
+    ensures { IsRefused result }
+{
+    match String::from_str(
+        alloc,
+        "error: the argument '--protocol own' requires '--book <book>'\n\nFor more information, try '--help'.\n",
     ) {
         Ok(text) => JobFault::Refused(text),
         Err(_) => JobFault::Memory,
