@@ -19,13 +19,14 @@ ghost use Rattle.std.specs.IoError.{error_kind};
 ghost use Rattle.std.specs.Vec.Iter.{into_iter_items, into_iter_len};
 ghost use Rattle.std.specs.Prelude.{◌≡◌, ◌≤◌, ◌⊎◌, ◌↔◌, IfErr, IfOk, IfSome, IsErrOf, MatchResult, None, drop, false, length, map, string_bytes, true};
 
+use ghs_cli::by_book::{OwnEnd, run_by_book};
 use ghs_cli::fault::ServeFault;
 use ghs_cli::judging::{BookCause, judge_all, judge_run, read_book_of};
 use ghs_cli::networks::{Network, read_network, sweep_networks};
 use ghs_cli::reading::{events_of, graph_of};
 use ghs_cli::serve::serve;
 use ghs_commands::exploring::ExploreOptions;
-use ghs_commands::job::{Job, JobFault, SweepOptions, Task, read_job};
+use ghs_commands::job::{Job, JobFault, RunOptions, SweepOptions, Task, read_job};
 use ghs_commands::values::is_dash;
 use ghs_gr::device::{Device, Source};
 use ghs_graph::graph::Graph;
@@ -110,8 +111,8 @@ fn answer<R: Runtime + AllocGlobal + Threads + Wait + Sync>(
     }
 }
 
-/// Does the job, and gives the exit status. A sweep whose lines begin with names is one of networks, and a replay that has a
-/// book is judged by it.
+/// Does the job, and gives the exit status. A sweep whose lines begin with names is one of networks; a run that has a book goes
+/// by it, and a replay and an exploration are judged by theirs.
 fn fulfil<R: Runtime + AllocGlobal + Threads + Wait + Sync>(rt: &R, alloc: Global, job: &Job) -> u8
     requires { IsWithinLimits job.now.task }
     ensures { IsStatusOfJob result }
@@ -120,6 +121,10 @@ fn fulfil<R: Runtime + AllocGlobal + Threads + Wait + Sync>(rt: &R, alloc: Globa
         Task::Sweep { protocols, options } if !job.networks.is_empty() => {
             sweep(rt, alloc, protocols, options, &job.networks)
         }
+        Task::Run {
+            protocol: _,
+            options,
+        } if job.book.is_some() => run_own(rt, alloc, options, job),
         Task::Replay { protocol: _, wake } if job.book.is_some() => judge(rt, alloc, *wake, job),
         Task::Explore {
             protocol: _,
@@ -173,6 +178,38 @@ fn network_of<R: Runtime + AllocGlobal>(
         Ok(file) => read_network(alloc, name, wake, &mut Device::of(file)),
         Err(_) => Err(ServeFault::Read),
     }
+}
+
+/// Reads the book and the graph, runs this by that, and gives the exit status.
+fn run_own<R: Runtime + AllocGlobal>(
+    rt: &R,
+    alloc: Global,
+    options: &RunOptions,
+    job: &Job,
+) -> u8
+    ensures { IsStatusOfJob result }
+{
+    let book = match book_of(rt, alloc, job.book.as_ref()) {
+        Ok(book) => book,
+        Err(cause) => return tell_cause(rt, &cause),
+    };
+    match ran_own(rt, alloc, options, job, book) {
+        Ok(end) => end.status(),
+        Err(cause) => tell(rt, &cause),
+    }
+}
+
+/// Reads the graph, and runs it by the book.
+fn ran_own<R: Runtime + AllocGlobal>(
+    rt: &R,
+    alloc: Global,
+    options: &RunOptions,
+    job: &Job,
+    book: Book,
+) -> Result<OwnEnd, ServeFault> {
+    let graph = built_of(rt, alloc, options.wake, job.graph.as_ref())?;
+    let mut out = Device::of(io::writer(rt));
+    run_by_book(alloc, options, graph, book, &mut out)
 }
 
 /// Reads the book, the trace and the graph, judges the run, and gives the exit status.

@@ -1,6 +1,7 @@
 -- Serves the proofs: nothing here has to be believed.
 mod AnyExplorations
 mod AnyRun
+mod ByBook
 mod Charted
 mod Ending
 mod Explorations

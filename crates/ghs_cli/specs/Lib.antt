@@ -2,6 +2,7 @@
 pub mod AnyExplore
 pub mod AnyRun
 pub mod AnyView
+pub mod ByBook
 pub mod Charts
 pub mod Exploring
 pub mod Fault

@@ -3,7 +3,7 @@
 //! Proved: at success `serve` has written exactly what the task prints of the bytes that it read, and else it answers the
 //! first fault whose cause is there (`serves`). Read and Write come exactly where a device failed (`read`, `write`); the
 //! output is made whole before its first byte goes out, except for steps and networks that are made (`unwritten`).
-//! `sweep_networks` is the same for sweeps of several networks (`swept`).
+//! `sweep_networks` is the same for sweeps of several networks (`swept`), and `run_by_book` for runs by a user's book (`run`).
 //!
 //! Only tested: the texts of faults, the lines of `--progress`, failing devices (`ghs_hostile_examples`), and the built
 //! program (`cases/`). docs/ARCHITECTURE.md leads from a command to the crates below.
@@ -13,6 +13,7 @@ mod any_explore;
 mod any_run;
 mod any_view;
 mod beside;
+pub mod by_book;
 mod charting;
 mod exploring;
 pub mod fault;
