@@ -1,4 +1,4 @@
-"""Fills books: asks a node's program what `ghs judge` finds open, until it finds nothing open.
+"""Fills books: asks a node's program what a command of `ghs` finds open, until it finds nothing open.
 
 A node's program is any program that reads questions, one a line, and writes an answer for each, one a line. It is a function of
 the question and of the greeting and openings before it: nothing else may change an answer. docs/FORMATS.md, "Book text", has the
@@ -12,7 +12,7 @@ import subprocess
 import threading
 
 NODES = os.path.join(os.path.dirname(os.path.realpath(__file__)), "nodes")
-# what `ghs judge` says of a line of the book; a book that is filled here has a line for each entry
+# what a command says of a line of the book; a book that is filled here has a line for each entry
 NO_ANSWER = re.compile(r"ghs: book: line (\d+): (?:not a question with an answer|more than)")
 LINE_BYTES = 1 << 20        # the bytes that a line of a book may have
 LINES = 1 << 20             # the lines that a book may have
@@ -110,12 +110,17 @@ class Book:
         return answer
 
     def judge(self, trace, graph, wake):
-        """Asks what is open until nothing is; the status of `ghs judge`, and what it prints. Without a trace all runs are judged,
-        by `ghs explore`."""
-        what = ["explore", graph] if trace is None else ["judge", trace, graph]
+        """The status of `ghs judge`, and what it prints. Without a trace all runs are judged, by `ghs explore`."""
+        return self.fill(*(["explore", graph] if trace is None else ["judge", trace, graph]), "--wake", wake)
+
+    def run(self, graph, *options):
+        """The status of a run by the book, and what it prints."""
+        return self.fill("run", graph, "--protocol", "own", *options)
+
+    def fill(self, *words):
+        """Asks what this command finds open until it finds nothing; its status, and what it prints."""
         while True:
-            command = [self.ghs, *what, "--book", self.path, "--wake", wake]
-            ran = subprocess.run(command, capture_output=True, text=True, check=False)
+            ran = subprocess.run([self.ghs, *words, "--book", self.path], capture_output=True, text=True, check=False)
             garbled = NO_ANSWER.match(ran.stderr)
             if garbled:
                 raise Fault("GARBLED", *list(self.entries.items())[int(garbled[1]) - 1])
