@@ -181,12 +181,7 @@ fn network_of<R: Runtime + AllocGlobal>(
 }
 
 /// Reads the book and the graph, runs this by that, and gives the exit status.
-fn run_own<R: Runtime + AllocGlobal>(
-    rt: &R,
-    alloc: Global,
-    options: &RunOptions,
-    job: &Job,
-) -> u8
+fn run_own<R: Runtime + AllocGlobal>(rt: &R, alloc: Global, options: &RunOptions, job: &Job) -> u8
     ensures { IsStatusOfJob result }
 {
     let book = match book_of(rt, alloc, job.book.as_ref()) {
