@@ -7,7 +7,8 @@ _ghs() {
         return
     fi
     case ${COMP_WORDS[1]},$before in
-        run,--protocol) COMPREPLY=($(compgen -W 'ghs boruvka echo' -- "$word")) && return ;;
+        run,--protocol) COMPREPLY=($(compgen -W 'ghs boruvka echo own' -- "$word")) && return ;;
+        run,--book) : && return ;;
         run,--seed) : && return ;;
         run,--schedule) COMPREPLY=($(compgen -W 'seeded patient rounds waits lifo round-robin' -- "$word")) && return ;;
         run,--workers) : && return ;;
@@ -53,7 +54,7 @@ _ghs() {
     esac
     case ${COMP_WORDS[1]} in
         tree) [[ $word == -* ]] && COMPREPLY=($(compgen -W '--core -h --help' -- "$word")) ;;
-        run) [[ $word == -* ]] && COMPREPLY=($(compgen -W '--protocol --seed --schedule --workers --wake --turns --print --core --progress --tally -h --help' -- "$word")) ;;
+        run) [[ $word == -* ]] && COMPREPLY=($(compgen -W '--protocol --book --seed --schedule --workers --wake --turns --print --core --progress --tally -h --help' -- "$word")) ;;
         replay) [[ $word == -* ]] && COMPREPLY=($(compgen -W '--protocol --wake -h --help' -- "$word")) ;;
         steps) [[ $word == -* ]] && COMPREPLY=($(compgen -W '--protocol --wake --from --to --node --json -h --help' -- "$word")) ;;
         judge) [[ $word == -* ]] && COMPREPLY=($(compgen -W '--book --wake -h --help' -- "$word")) ;;
