@@ -5,15 +5,18 @@
 #   make uninstall [PREFIX=/usr/local] [DESTDIR=..]
 PREFIX = /usr/local
 DATA = $(DESTDIR)$(PREFIX)/share
+# where the program itself lies: what stands in bin/ starts it on huge pages
+OWN = $(PREFIX)/libexec/ghs
 
 all:
 	@echo 'usage: make install [PREFIX=/usr/local] [DESTDIR=..]'
 
 install:
-	mkdir -p $(DESTDIR)$(PREFIX)/bin $(DATA)/man/man1 $(DATA)/bash-completion/completions
+	mkdir -p $(DESTDIR)$(PREFIX)/bin $(DESTDIR)$(OWN) $(DATA)/man/man1 $(DATA)/bash-completion/completions
 	mkdir -p $(DATA)/zsh/site-functions $(DATA)/fish/vendor_completions.d $(DATA)/ghs/pages $(DATA)/ghs/examples
-	cp bin/ghs $(DESTDIR)$(PREFIX)/bin/ghs
-	chmod 755 $(DESTDIR)$(PREFIX)/bin/ghs
+	cp bin/ghs $(DESTDIR)$(OWN)/ghs
+	sed 's|@OWN@|$(OWN)|' share/start >$(DESTDIR)$(PREFIX)/bin/ghs
+	chmod 755 $(DESTDIR)$(OWN)/ghs $(DESTDIR)$(PREFIX)/bin/ghs
 	cp share/man/ghs.1 $(DATA)/man/man1/ghs.1
 	cp share/completions/ghs.bash $(DATA)/bash-completion/completions/ghs
 	cp share/completions/_ghs $(DATA)/zsh/site-functions/_ghs
@@ -25,6 +28,6 @@ install:
 uninstall:
 	rm -f $(DESTDIR)$(PREFIX)/bin/ghs $(DATA)/man/man1/ghs.1 $(DATA)/bash-completion/completions/ghs
 	rm -f $(DATA)/zsh/site-functions/_ghs $(DATA)/fish/vendor_completions.d/ghs.fish
-	rm -rf $(DATA)/ghs
+	rm -rf $(DATA)/ghs $(DESTDIR)$(OWN)
 
 .PHONY: all install uninstall
