@@ -3,16 +3,21 @@
 A node's program is any program that reads questions, one a line, and writes an answer for each, one a line. It is a function of
 the question and of the greeting and openings before it: nothing else may change an answer. docs/FORMATS.md, "Book text", has the
 lines; nodes/node.py is a library for programs in Python, which finds it wherever it stands.
+
+The scripts here read their words by `parser_of`; `ask` and `run` give the status that `filled` returns.
 """
+import argparse
 import os
 import queue
 import re
 import shlex
 import subprocess
+import sys
 import threading
 
-NODES = os.path.join(os.path.dirname(os.path.realpath(__file__)), "nodes")
-# what a command says of a line of the book; a book that is filled here has a line for each entry
+HERE = os.path.dirname(os.path.realpath(__file__))
+NODES = os.path.join(HERE, "nodes")
+# what a command says of a line of the book
 NO_ANSWER = re.compile(r"ghs: book: line (\d+): (?:not a question with an answer|more than)")
 LINE_BYTES = 1 << 20        # the bytes that a line of a book may have
 LINES = 1 << 20             # the lines that a book may have
@@ -26,7 +31,7 @@ class Fault(Exception):
         self.name, self.question, self.answer = name, question, answer
 
     def __str__(self):
-        told = "" if self.answer is None else f"\nanswer: {self.answer}"
+        told = "" if self.answer is None else f"\nanswer: {self.answer[:200]}"
         return f"{WORDS[self.name]}\nquestion: {self.question}{told}"
 
 
@@ -74,7 +79,7 @@ class Node:
         except UnicodeDecodeError:
             raise Fault("GARBLED", question, repr(line)) from None
         if not text.endswith("\n"):
-            raise Fault("GARBLED", question, text[:80])
+            raise Fault("GARBLED", question, text)
         return text[:-1]
 
     def close(self):
@@ -92,15 +97,21 @@ class Book:
 
     def __init__(self, path, command, seconds, ghs):
         self.path, self.ghs, self.entries = path, ghs, {}
-        with open(path, "a+", encoding="ascii") as file:
+        with open(path, "a+b") as file:
             file.seek(0)
-            for line in file.read().splitlines():
-                question, _, answer = line.partition(" = ")
-                self.entries.setdefault(question, answer)
+            # what stands behind the last line feed may be cut off: it is asked again
+            file.truncate(file.read().rfind(b"\n") + 1)
+        for question, answer in self._lines():
+            self.entries.setdefault(question, answer)
         self.node = Node(command, seconds)
         # what a program knows its nodes by comes first, whoever asked it before
         for question in [it for it in self.entries if it.startswith(("own ", "open "))]:
             self._ask(question)
+
+    def _lines(self):
+        """The lines of the file, each as question and answer."""
+        with open(self.path, encoding="ascii", errors="backslashreplace", newline="\n") as file:
+            return [line.removesuffix("\n").partition(" = ")[::2] for line in file]
 
     def _ask(self, question):
         answer = self.node.answer(question)
@@ -115,7 +126,13 @@ class Book:
 
     def run(self, graph, *options):
         """The status of a run by the book, and what it prints."""
-        return self.fill("run", graph, "--protocol", "own", *options)
+        words = ("run", graph, "--protocol", "own", *options)
+        if "--turns" not in options:
+            # (where nodes have stopped, others may defer messages for long: so questions come first of a run's beginning)
+            short = self.fill(*words, "--turns", "10000")
+            if short[0] == 0:
+                return short
+        return self.fill(*words)
 
     def fill(self, *words):
         """Asks what this command finds open until it finds nothing; its status, and what it prints."""
@@ -123,7 +140,7 @@ class Book:
             ran = subprocess.run([self.ghs, *words, "--book", self.path], capture_output=True, text=True, check=False)
             garbled = NO_ANSWER.match(ran.stderr)
             if garbled:
-                raise Fault("GARBLED", *list(self.entries.items())[int(garbled[1]) - 1])
+                raise Fault("GARBLED", *self._lines()[int(garbled[1]) - 1])
             if ran.returncode != 7:
                 return ran.returncode, ran.stdout, ran.stderr
             with open(self.path, "a", encoding="ascii", errors="backslashreplace") as file:
@@ -139,3 +156,37 @@ class Book:
 
     def close(self):
         self.node.close()
+
+
+def parser_of(head):
+    """The words of a script, whose head tells its usage: those that all scripts take which ask programs."""
+    parser = argparse.ArgumentParser(usage=re.search(r"(?m)^usage: (.*)$", head)[1])
+    parser.add_argument("--seconds", type=float, default=10, help="how long one answer may take (10)")
+    parser.add_argument("--ghs", default=os.path.join(HERE, "..", "..", "bin", "ghs"), help="the program ghs")
+    return parser
+
+
+def filled(parser, fill):
+    """Fills a book as `fill` says of the book and the words given, and prints what the command of `ghs` says of it: the status."""
+    parser.add_argument("--book", required=True, help="the file of the book, of one graph; it is made where it isn't there")
+    parser.add_argument("--wake", default="all", help="which nodes may wake by themselves, as ghs takes it (all)")
+    parser.add_argument("--audit", action="store_true", help="asks each question once more at the end")
+    words = parser.parse_args()
+    book = None
+    try:
+        book = Book(words.book, words.command, words.seconds, words.ghs)
+        status, text, error = fill(book, words)
+        if words.audit and status == 0:
+            book.audit()
+    except Fault as fault:
+        print(fault)
+        return 8
+    except OSError as error:
+        print(f"{parser.prog}: {error.filename}: {error.strerror}", file=sys.stderr)
+        return 5
+    finally:
+        if book:
+            book.close()
+    print(text, end="")
+    print(error, end="", file=sys.stderr)
+    return status
