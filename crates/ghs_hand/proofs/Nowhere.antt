@@ -10,13 +10,14 @@ use Rattle.peer_network.specs.declared.wake_set.WakeSet.{WakeSet}
 use Rattle.peer_hand.specs.Faults.{of_replay}
 use Rattle.peer_hand.specs.Texts.{HasNoGraph, IsTextOf}
 use Rattle.peer_hand.specs.declared.fault.HandFault.{HandFault}
-use Rattle.peer_hand.specs.declared.fault.HandFault.TheVariants.{Graph, Trace, Other, NotLawful, TurnLimit, Memory}
+use Rattle.peer_hand.specs.declared.fault.HandFault.TheVariants.{Graph, Trace, Other, Own, NotLawful, TurnLimit, Memory}
 use Rattle.ghs_hand.specs.Led.{HasNoEvents, LeadsNowhere}
 
 pub no_graph : (wake : WakeSet) (graph trace : List ℕ) (f : HandFault) → HasNoGraph graph f → LeadsNowhere wake graph trace f
 no_graph wake graph trace (Graph fault) h = h
 no_graph wake graph trace (Trace fault) h = absurd h
 no_graph wake graph trace (Other other) h = absurd h
+no_graph wake graph trace Own h = absurd h
 no_graph wake graph trace (NotLawful k) h = absurd h
 no_graph wake graph trace TurnLimit h = absurd h
 no_graph wake graph trace Memory h = tt
@@ -26,6 +27,7 @@ pub no_events : (wake : WakeSet) (graph trace : List ℕ) (g : Shape) (f : HandF
 no_events wake graph trace g (Graph fault) is h = absurd h
 no_events wake graph trace g (Trace fault) is h = ((g, is), h)
 no_events wake graph trace g (Other other) is h = absurd h
+no_events wake graph trace g Own is h = absurd h
 no_events wake graph trace g (NotLawful k) is h = absurd h
 no_events wake graph trace g TurnLimit is h = absurd h
 no_events wake graph trace g Memory is h = tt

@@ -9,7 +9,7 @@ use Rattle.peer_network.specs.declared.wake_set.WakeSet.{WakeSet}
 use Rattle.ghs_world.specs.WorldState.{WorldState}
 use Rattle.peer_hand.specs.Texts.{IsTextOf}
 use Rattle.peer_hand.specs.declared.fault.HandFault.{HandFault}
-use Rattle.peer_hand.specs.declared.fault.HandFault.TheVariants.{Graph, Trace, Other, NotLawful, TurnLimit, Memory}
+use Rattle.peer_hand.specs.declared.fault.HandFault.TheVariants.{Graph, Trace, Other, Own, NotLawful, TurnLimit, Memory}
 
 -- the one text is of the world's graph, the other of its events; nothing is out, and turns are left as far as they may go
 pub record IsLed (wake : WakeSet) (graph trace : List ℕ) (w : WorldState) : Type 0 where
@@ -31,5 +31,6 @@ LeadsNowhere wake graph trace (Trace fault) = ((g : Shape) × IsTextOf graph g) 
 LeadsNowhere wake graph trace (NotLawful k) =
     (g : Shape) × (es : List Event) × IsTextOf graph g × HasEvents trace es × IsFirstUnlawful g wake es k
 LeadsNowhere wake graph trace (Other other) = ⊥
+LeadsNowhere wake graph trace Own = ⊥
 LeadsNowhere wake graph trace TurnLimit = ⊥
 LeadsNowhere wake graph trace Memory = Unit {0}

@@ -12,3 +12,5 @@ mod judged;
 mod orders;
 #[cfg(test)]
 mod runs;
+#[cfg(test)]
+mod stored;

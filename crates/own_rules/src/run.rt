@@ -30,7 +30,7 @@ use std::marker::Brand;
 #[derive(Drop)]
 pub struct BookRun {
     pub events: Vec<Event>,
-    /// Whether its turns are used while an event may still happen.
+    /// Whether its turns are used while an event may still happen; of a stored run, whether an event may still happen.
     pub at_limit: bool,
     /// The nodes that have stopped, by rising number, each with where and why.
     pub stops: Vec<(u32, Stop)>,
@@ -112,8 +112,8 @@ fn run_under<P: Spoken + Protocol<Node = Node>>(
     }
 }
 
-/// What has happened in a world, and what is told of it. Refusal: out of memory.
-fn ran<P: Spoken + Protocol<Node = Node>>(
+/// What has happened in a world, and what is told of it; `at_limit` is as the caller says. Refusal: out of memory.
+pub fn ran<P: Spoken + Protocol<Node = Node>>(
     alloc: Global,
     rules: &Rulebook,
     world: &World<P>,

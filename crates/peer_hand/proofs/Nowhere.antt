@@ -13,13 +13,14 @@ use Rattle.peer_hand.specs.Faults.{of_replay}
 use Rattle.peer_hand.specs.Led.{LeadsNowhere}
 use Rattle.peer_hand.specs.Texts.{HasNoEvents, HasNoGraph, IsTextOf}
 use Rattle.peer_hand.specs.declared.fault.HandFault.{HandFault}
-use Rattle.peer_hand.specs.declared.fault.HandFault.TheVariants.{Graph, Trace, Other, NotLawful, TurnLimit, Memory}
+use Rattle.peer_hand.specs.declared.fault.HandFault.TheVariants.{Graph, Trace, Other, Own, NotLawful, TurnLimit, Memory}
 
 module _ {S M : Type 0} (r : Rules S M) (p : Protocol) (wake : WakeSet) (graph trace : List ℕ) where
   pub no_graph : (f : HandFault) → HasNoGraph graph f → LeadsNowhere r p wake graph trace f
   no_graph (Graph fault) h = h
   no_graph (Trace fault) h = absurd h
   no_graph (Other other) h = absurd h
+  no_graph Own h = absurd h
   no_graph (NotLawful k) h = absurd h
   no_graph TurnLimit h = absurd h
   no_graph Memory h = tt
@@ -28,6 +29,7 @@ module _ {S M : Type 0} (r : Rules S M) (p : Protocol) (wake : WakeSet) (graph t
   no_events g (Graph fault) is h = absurd h
   no_events g (Trace fault) is h = ((g, is), h)
   no_events g (Other other) is h = ((g, is), h)
+  no_events g Own is h = ((g, is), h)
   no_events g (NotLawful k) is h = absurd h
   no_events g TurnLimit is h = absurd h
   no_events g Memory is h = tt

@@ -8,7 +8,7 @@ use Rattle.peer_texts.specs.declared.fault.TraceFault.TheVariants as trace
 use Rattle.peer_trace.specs.declared.fault.StoredFault.{StoredFault}
 use Rattle.peer_trace.specs.declared.fault.StoredFault.TheVariants as stored
 use Rattle.peer_hand.specs.declared.fault.HandFault.{HandFault}
-use Rattle.peer_hand.specs.declared.fault.HandFault.TheVariants.{Graph, Trace, Other, NotLawful, Memory}
+use Rattle.peer_hand.specs.declared.fault.HandFault.TheVariants.{Graph, Trace, Other, Own, NotLawful, Memory}
 
 -- of a graph's text
 abbrev pub of_graph : GrFault → HandFault
@@ -22,6 +22,7 @@ of_trace fault = Trace fault
 
 abbrev pub of_stored : StoredFault → HandFault
 of_stored (stored.Other protocol) = Other protocol
+of_stored stored.Own = Own
 of_stored (stored.Trace fault) = of_trace fault
 
 -- and of events

@@ -14,7 +14,7 @@ use Rattle.peer_trace.specs.declared.fault.StoredFault.TheVariants as stored
 use Rattle.peer_trace.specs.declared.protocol.Protocol.{Protocol}
 use Rattle.peer_hand.specs.Texts.{IsTextOf}
 use Rattle.peer_hand.specs.declared.fault.HandFault.{HandFault}
-use Rattle.peer_hand.specs.declared.fault.HandFault.TheVariants.{Graph, Trace, Other, NotLawful, TurnLimit, Memory}
+use Rattle.peer_hand.specs.declared.fault.HandFault.TheVariants.{Graph, Trace, Other, Own, NotLawful, TurnLimit, Memory}
 
 -- by the rules of a protocol, which stored runs name so
 module _ {S M : Type 0} (r : Rules S M) (p : Protocol) where
@@ -31,6 +31,7 @@ module _ {S M : Type 0} (r : Rules S M) (p : Protocol) where
   LeadsNowhere wake graph trace (Graph fault) = TextIs graph (Err fault)
   LeadsNowhere wake graph trace (Trace fault) = ((g : Shape) × IsTextOf graph g) × HasFaultOf p trace (stored.Trace fault)
   LeadsNowhere wake graph trace (Other other) = ((g : Shape) × IsTextOf graph g) × HasFaultOf p trace (stored.Other other)
+  LeadsNowhere wake graph trace Own = ((g : Shape) × IsTextOf graph g) × HasFaultOf p trace stored.Own
   LeadsNowhere wake graph trace (NotLawful k) =
       (g : Shape) × (es : List Event) × IsTextOf graph g × HasEventsOf p trace es × IsFirstUnlawful r g wake es k
   LeadsNowhere wake graph trace TurnLimit = ⊥

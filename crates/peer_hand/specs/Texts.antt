@@ -8,7 +8,7 @@ use Rattle.peer_trace.specs.Reading.{HasFaultOf}
 use Rattle.peer_trace.specs.declared.fault.StoredFault.TheVariants as stored
 use Rattle.peer_trace.specs.declared.protocol.Protocol.{Protocol}
 use Rattle.peer_hand.specs.declared.fault.HandFault.{HandFault}
-use Rattle.peer_hand.specs.declared.fault.HandFault.TheVariants.{Graph, Trace, Other, Memory}
+use Rattle.peer_hand.specs.declared.fault.HandFault.TheVariants.{Graph, Trace, Other, Own, Memory}
 
 -- the text is one of this graph
 pub record IsTextOf (text : List ℕ) (g : Shape) : Type 0 where
@@ -26,5 +26,6 @@ HasNoGraph text _ = ⊥
 abbrev pub HasNoEvents : Protocol → List ℕ → HandFault → Type 0
 HasNoEvents p text (Trace fault) = HasFaultOf p text (stored.Trace fault)
 HasNoEvents p text (Other other) = HasFaultOf p text (stored.Other other)
+HasNoEvents p text Own = HasFaultOf p text stored.Own
 HasNoEvents p text Memory = Unit {0}
 HasNoEvents p text _ = ⊥

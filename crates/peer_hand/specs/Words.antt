@@ -7,7 +7,7 @@ use Rattle.peer_texts.specs.declared.fault.TraceFault.TheVariants as trace
 use Rattle.peer_trace.specs.Protocol.{name_of}
 use Rattle.peer_trace.specs.declared.protocol.Protocol.{Protocol}
 use Rattle.peer_hand.specs.declared.fault.HandFault.{HandFault}
-use Rattle.peer_hand.specs.declared.fault.HandFault.TheVariants.{Graph, Trace, Other, NotLawful, TurnLimit, Memory}
+use Rattle.peer_hand.specs.declared.fault.HandFault.TheVariants.{Graph, Trace, Other, Own, NotLawful, TurnLimit, Memory}
 
 -- a number between words
 abbrev pub between : List ℕ → ℕ → List ℕ → List ℕ
@@ -52,6 +52,7 @@ unfoldable pub fault_members : HandFault → List ℕ
 fault_members (Graph f) = codes "graph\",\"words\":\"" ++ graph_words f
 fault_members (Trace f) = codes "trace\",\"words\":\"" ++ trace_words f
 fault_members (Other p) = other_words p
+fault_members Own = codes "trace\",\"words\":\"the trace is of --protocol own"
 fault_members (NotLawful k) = event_words k
 fault_members TurnLimit = codes "run\",\"words\":\"turn limit reached"
 fault_members Memory = codes "memory\",\"words\":\"out of memory"

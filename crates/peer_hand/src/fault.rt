@@ -19,6 +19,8 @@ pub enum HandFault {
     Trace(TraceFault),
     /// It is a run of this other protocol.
     Other(Protocol),
+    /// It is a run of a user's own protocol.
+    Own,
     /// The first event that isn't lawful where it stands.
     NotLawful(u64),
     /// A run that goes on has used all its turns.
@@ -55,6 +57,7 @@ impl From<StoredFault> for HandFault {
     fn from(fault: StoredFault) -> HandFault {
         match fault {
             StoredFault::Other(protocol) => HandFault::Other(protocol),
+            StoredFault::Own => HandFault::Own,
             StoredFault::Trace(fault) => fault.into(),
         }
     }

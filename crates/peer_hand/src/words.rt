@@ -40,6 +40,7 @@ fn put_members(text: &mut Vec<u8>, fault: HandFault) -> Result<(), AllocError>
             put_trace_words(text, fault)
         }
         HandFault::Other(protocol) => put_other(text, protocol),
+        HandFault::Own => put_words(text, b"trace\",\"words\":\"the trace is of --protocol own"),
         HandFault::NotLawful(event) => put_event(text, event),
         HandFault::TurnLimit => put_words(text, b"run\",\"words\":\"turn limit reached"),
         HandFault::Memory => put_words(text, b"memory\",\"words\":\"out of memory"),

@@ -3,6 +3,7 @@ use Rattle.std.specs.Prelude.{ℕ, Bool, false, codes, cond, map, List, [], ◌�
 use Rattle.std.specs.Str.{bytes_eq}
 use Rattle.ghs_lines.specs.Fields.{fields_of}
 use Rattle.ghs_lines.specs.Lines.{lines_of}
+use Rattle.peer_trace.specs.Mark.{Mark, marked_by, without_mark}
 use Rattle.peer_trace.specs.Protocol.{is_in_heads, name_of}
 use Rattle.peer_trace.specs.declared.protocol.Protocol.{Protocol}
 use Rattle.peer_trace.specs.declared.protocol.Protocol.TheVariants.{Ghs, Boruvka, Echo}
@@ -40,6 +41,10 @@ first_fields ((first ∷ others) ∷ more) = first ∷ others
 abbrev pub protocol_in : List ℕ → Option Protocol
 protocol_in text = named_by (first_fields (fields_in text))
 
+-- the mark that the head of a text has, where it is a run of a user's own protocol
+abbrev pub mark_in : List ℕ → Option Mark
+mark_in text = marked_by (first_fields (fields_in text))
+
 -- whether a head that names this has a name in it
 abbrev pub has_name : Option Protocol → Bool
 has_name None = false
@@ -54,8 +59,16 @@ without_second fields = fields
 abbrev pub plain_head : Option Protocol → List (List ℕ) → List (List ℕ)
 plain_head named fields = cond (has_name named) (without_second fields) fields
 
--- the same lines, but that in the head no name stands
+-- the fields of a head with this mark, or that names this protocol, without both
+abbrev pub plain_fields : Option Mark → Option Protocol → List (List ℕ) → List (List ℕ)
+plain_fields (Some mark) named fields = without_mark fields
+plain_fields None named fields = plain_head named fields
+
+abbrev pub plain_of : List (List ℕ) → List (List ℕ)
+plain_of fields = plain_fields (marked_by fields) (named_by fields) fields
+
+-- the same lines, but that in the head no name and no mark stands
 abbrev pub plain_lines : List (List (List ℕ)) → List (List (List ℕ))
 plain_lines [] = []
 plain_lines ([] ∷ more) = [] ∷ plain_lines more
-plain_lines ((first ∷ others) ∷ more) = plain_head (named_by (first ∷ others)) (first ∷ others) ∷ more
+plain_lines ((first ∷ others) ∷ more) = plain_of (first ∷ others) ∷ more

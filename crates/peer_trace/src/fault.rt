@@ -14,6 +14,9 @@ pub enum StoredFault {
     /// It is one of this other protocol.
     #[error("a run of {}", .0.name())]
     Other(Protocol),
+    /// It is one of a user's own protocol.
+    #[error("a run of a user's own protocol")]
+    Own,
     /// It is no trace's text, or memory ran out.
     #[error("{0}")]
     Trace(TraceFault),

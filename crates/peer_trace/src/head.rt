@@ -1,9 +1,11 @@
-//! The head of a text: which protocol it names, and the text without that name.
+//! The head of a text: which protocol it names, or which mark it has, and the text without both.
 ghost use Rattle.ghs_lines.specs.Fields.{fields_of};
-ghost use Rattle.peer_trace.specs.Head.{fields_in, head_fields, named_behind, named_by, named_so, plain_lines, protocol_in};
+ghost use Rattle.peer_trace.specs.Head.{fields_in, first_fields, head_fields, named_behind, named_by, named_so, plain_lines, plain_of, protocol_in};
+ghost use Rattle.peer_trace.specs.Mark.{marked_by};
 ghost use Rattle.peer_trace.specs.Protocol.{is_in_heads, name_of};
-ghost use Rattle.std.specs.Prelude.{IfNone, IfOk, IfSome, None, codes, true, ◌∷◌, ◌≡◌};
+ghost use Rattle.std.specs.Prelude.{IfNone, IfOk, IfSome, None, [], codes, true, ◌∷◌, ◌≡◌};
 
+use crate::mark::marked_head;
 use crate::protocol::Protocol;
 use ghs_lines::fields::{next_field, one_field, two_fields};
 use ghs_lines::lines::next_line;
@@ -13,25 +15,32 @@ use std::alloc::{AllocError, Global};
 pub(crate) fn protocol_of(text: &[u8]) -> Option<Protocol>
     ensures { result ≡ protocol_in text.now }
 {
+    let (protocol, _) = head_of(head_line(text))?;
+    Some(protocol)
+}
+
+/// The head of a text: its first line that has fields; an empty one where none has.
+pub(crate) fn head_line(text: &[u8]) -> &[u8]
+    ensures { fields_of result.now ≡ first_fields (fields_in text.now) }
+{
     let mut rest = text;
     'lines: while let Some((line, after)) = next_line(rest) {
         if next_field(line).is_some() {
-            let (protocol, _) = head_of(line)?;
-            return Some(protocol);
+            return line;
         }
         rest = after;
     }
-    None
+    b""
 }
 
-/// The text without the name in its head, which has its lines one by one.
+/// The text without the name and the mark in its head, which has its lines one by one.
 pub(crate) fn without_name(alloc: Global, text: &[u8]) -> Result<Vec<u8>, AllocError>
     ensures { IfOk result (λ plain. fields_in plain.items ≡ plain_lines (fields_in text.now)) }
 {
     let mut plain = Vec::with_capacity(alloc, text.len())?;
     let mut rest = text;
     'lines: while let Some((line, after)) = next_line(rest) {
-        if let Some((_, count)) = head_of(line) {
+        if let Some(count) = count_of(line) {
             plain.extend_from_slice(b"trace ")?;
             plain.extend_from_slice(count)?;
             plain.extend_from_slice(b"\n")?;
@@ -46,6 +55,21 @@ pub(crate) fn without_name(alloc: Global, text: &[u8]) -> Result<Vec<u8>, AllocE
         rest = after;
     }
     Ok(plain)
+}
+
+/// The field of the count, where a line is a head.
+fn count_of(line: &[u8]) -> Option<&[u8]>
+    ensures some { IfSome result (λ count. plain_of (fields_of line.now) ≡ codes "trace" ∷ count.now ∷ []) }
+    ensures mark { IfNone result (marked_by (fields_of line.now) ≡ None) }
+    ensures name { IfNone result (named_by (fields_of line.now) ≡ None) }
+{
+    match marked_head(line) {
+        Some(head) => Some(head.count),
+        None => {
+            let (_, count) = head_of(line)?;
+            Some(count)
+        }
+    }
 }
 
 /// The protocol that a line names as a head, and the field of its count.

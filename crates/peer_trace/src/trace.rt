@@ -1,15 +1,16 @@
 //! The text of a stored run, written and read.
 ghost use Rattle.peer_texts.specs.Reading.{HaveFault, IsTrace};
 ghost use Rattle.peer_texts.specs.declared.fault.TraceFault.TheVariants.{Memory};
-ghost use Rattle.peer_trace.specs.Head.{has_name, protocol_in};
+ghost use Rattle.peer_trace.specs.Head.{has_name, mark_in, protocol_in};
 ghost use Rattle.peer_trace.specs.Protocol.{name_of};
 ghost use Rattle.peer_trace.specs.Reading.{HasEventsOf, HasFaultOf, IsNoOther, says};
 ghost use Rattle.peer_trace.specs.Text.{stored_text};
 ghost use Rattle.peer_trace.specs.declared.fault.StoredFault.TheVariants.{Trace};
-ghost use Rattle.std.specs.Prelude.{IfErr, IfNone, IfOk, IfSome, Some, codes, drop, length, ◌++◌, ◌≡◌, ◌≢◌, ◌≤◌};
+ghost use Rattle.std.specs.Prelude.{IfErr, IfNone, IfOk, IfSome, None, Some, codes, drop, length, ◌++◌, ◌≡◌, ◌≢◌, ◌≤◌};
 
 use crate::fault::StoredFault;
-use crate::head::{protocol_of, without_name};
+use crate::head::{head_line, protocol_of, without_name};
+use crate::mark::marked_head;
 use crate::protocol::Protocol;
 use peer_network::event::Event;
 use peer_texts::fault::TraceFault;
@@ -52,7 +53,7 @@ fn with_name(alloc: Global, protocol: Protocol, text: &[u8]) -> Result<Vec<u8>, 
     Ok(named)
 }
 
-/// The events of a stored run of this protocol. A text whose head names another protocol is Other. If it is no trace's text,
+/// The events of a stored run of this protocol. A text whose head names another protocol is Other, or Own. If it is no trace's text,
 /// that is the fault which `read_trace` has for it, as if the head had no name; the number of a line is that in this text.
 pub fn read_trace_of(
     alloc: Global,
@@ -65,6 +66,9 @@ pub fn read_trace_of(
     let named = protocol_of(text);
     if let Some(other) = other_than(protocol, named) {
         return Err(StoredFault::Other(other));
+    }
+    if marked_head(head_line(text)).is_some() {
+        return Err(StoredFault::Own);
     }
     Ok(read_named(alloc, named, text)?)
 }
@@ -83,13 +87,22 @@ fn other_than(protocol: Protocol, named: Option<Protocol>) -> Option<Protocol>
 
 /// The events of a text whose head names this protocol, or none.
 fn read_named(alloc: Global, named: Option<Protocol>, text: &[u8]) -> Result<Vec<Event>, TraceFault>
-    requires { named ≡ protocol_in text.now }
+    requires named { named ≡ protocol_in text.now }
+    requires unmarked { mark_in text.now ≡ None }
     ensures events { IfOk result (λ events. IsTrace (says text.now) events.items) }
     ensures fault { IfErr result (λ fault. fault ≢ Memory → HaveFault (says text.now) fault) }
 {
     if !has_name(named) {
         return read_trace(alloc, text);
     }
+    read_plain(alloc, text)
+}
+
+/// The events of a text, its head read without its protocol's name and its mark.
+pub(crate) fn read_plain(alloc: Global, text: &[u8]) -> Result<Vec<Event>, TraceFault>
+    ensures events { IfOk result (λ events. IsTrace (says text.now) events.items) }
+    ensures fault { IfErr result (λ fault. fault ≢ Memory → HaveFault (says text.now) fault) }
+{
     let plain = without_name(alloc, text)?;
     read_trace(alloc, &plain)
 }
