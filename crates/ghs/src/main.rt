@@ -11,6 +11,7 @@
 ghost use Rattle.ghs.specs.Status.{IsStatusOf, IsStatusOfJob, status_unread};
 ghost use Rattle.ghs_cli.specs.Fault.{status_of};
 ghost use Rattle.ghs_cli.specs.Judging.{book_status};
+ghost use Rattle.ghs_cli.specs.AgainByBook.{cause_status};
 ghost use Rattle.peer_texts.specs.declared.trace.TheConstants.{EVENT_LIMIT};
 ghost use Rattle.ghs_cli.specs.Serving.{IfStored, IsBoundedTask, IsUnread, Serves, is_write};
 ghost use Rattle.ghs_cli.specs.declared.fault.ServeFault.{ServeFault};
@@ -19,6 +20,7 @@ ghost use Rattle.std.specs.IoError.{error_kind};
 ghost use Rattle.std.specs.Vec.Iter.{into_iter_items, into_iter_len};
 ghost use Rattle.std.specs.Prelude.{◌≡◌, ◌≤◌, ◌⊎◌, ◌↔◌, IfErr, IfOk, IfSome, IsErrOf, MatchResult, None, drop, false, length, map, string_bytes, true};
 
+use ghs_cli::again_by_book::{OwnCause, replay_by_book, steps_by_book, stored_by_book};
 use ghs_cli::by_book::{OwnEnd, run_by_book};
 use ghs_cli::fault::ServeFault;
 use ghs_cli::judging::{BookCause, judge_all, judge_run, read_book_of};
@@ -26,13 +28,14 @@ use ghs_cli::networks::{Network, read_network, sweep_networks};
 use ghs_cli::reading::{events_of, graph_of};
 use ghs_cli::serve::serve;
 use ghs_commands::exploring::ExploreOptions;
-use ghs_commands::job::{Job, JobFault, RunOptions, SweepOptions, Task, read_job};
+use ghs_commands::job::{Job, JobFault, RunOptions, StepsOptions, SweepOptions, Task, read_job};
 use ghs_commands::values::is_dash;
 use ghs_gr::device::{Device, Source};
 use ghs_graph::graph::Graph;
 use ghs_report::write_out::write_out;
 use own_book::book::Book;
 use own_judge::end::End;
+use own_rules::rulebook::Rulebook;
 use peer_network::event::Event;
 use peer_network::wake_set::WakeSet;
 use peer_trace::protocol::Protocol;
@@ -111,8 +114,8 @@ fn answer<R: Runtime + AllocGlobal + Threads + Wait + Sync>(
     }
 }
 
-/// Does the job, and gives the exit status. A sweep whose lines begin with names is one of networks; a run that has a book goes
-/// by it, and a replay and an exploration are judged by theirs.
+/// Does the job, and gives the exit status. A sweep whose lines begin with names is one of networks; what is by a user's own
+/// protocol goes by its book, and another replay and an exploration that have a book are judged by it.
 fn fulfil<R: Runtime + AllocGlobal + Threads + Wait + Sync>(rt: &R, alloc: Global, job: &Job) -> u8
     requires { IsWithinLimits job.now.task }
     ensures { IsStatusOfJob result }
@@ -124,7 +127,12 @@ fn fulfil<R: Runtime + AllocGlobal + Threads + Wait + Sync>(rt: &R, alloc: Globa
         Task::Run {
             protocol: _,
             options,
-        } if job.book.is_some() => run_own(rt, alloc, options, job),
+        } if job.own => run_own(rt, alloc, options, job),
+        Task::Replay { protocol: _, wake } if job.own => replay_own(rt, alloc, *wake, job),
+        Task::Steps {
+            protocol: _,
+            options,
+        } if job.own => steps_own(rt, alloc, options, job),
         Task::Replay { protocol: _, wake } if job.book.is_some() => judge(rt, alloc, *wake, job),
         Task::Explore {
             protocol: _,
@@ -205,6 +213,103 @@ fn ran_own<R: Runtime + AllocGlobal>(
     let graph = built_of(rt, alloc, options.wake, job.graph.as_ref())?;
     let mut out = Device::of(io::writer(rt));
     run_by_book(alloc, options, graph, book, &mut out)
+}
+
+/// Reads the book, the trace and the graph, plays the run again by the book, and gives the exit status.
+fn replay_own<R: Runtime + AllocGlobal>(rt: &R, alloc: Global, wake: WakeSet, job: &Job) -> u8
+    ensures { IsStatusOfJob result }
+{
+    match own_run_of(rt, alloc, job) {
+        Ok((rules, events)) => match replayed_own(rt, alloc, wake, job, &rules, &events) {
+            Ok(end) => end.status(),
+            Err(cause) => tell(rt, &cause),
+        },
+        Err(status) => status,
+    }
+}
+
+/// Reads the graph, and plays these events of it again by the book.
+fn replayed_own<R: Runtime + AllocGlobal>(
+    rt: &R,
+    alloc: Global,
+    wake: WakeSet,
+    job: &Job,
+    rules: &Rulebook,
+    events: &[Event],
+) -> Result<OwnEnd, ServeFault> {
+    let graph = built_of(rt, alloc, wake, job.graph.as_ref())?;
+    let mut out = Device::of(io::writer(rt));
+    replay_by_book(alloc, wake, graph, rules, events, &mut out)
+}
+
+/// Reads the book, the trace and the graph, writes the steps of the run by the book, and gives the exit status.
+fn steps_own<R: Runtime + AllocGlobal>(
+    rt: &R,
+    alloc: Global,
+    options: &StepsOptions,
+    job: &Job,
+) -> u8
+    ensures { IsStatusOfJob result }
+{
+    match own_run_of(rt, alloc, job) {
+        Ok((rules, events)) => finish(rt, told_own(rt, alloc, options, job, &rules, &events)),
+        Err(status) => status,
+    }
+}
+
+/// Reads the graph, and writes the steps of these events of it by the book.
+fn told_own<R: Runtime + AllocGlobal>(
+    rt: &R,
+    alloc: Global,
+    options: &StepsOptions,
+    job: &Job,
+    rules: &Rulebook,
+    events: &[Event],
+) -> Result<(), ServeFault> {
+    let graph = built_of(rt, alloc, options.wake, job.graph.as_ref())?;
+    let mut out = Device::of(io::writer(rt));
+    steps_by_book(alloc, options, graph, rules, events, &mut out)
+}
+
+/// The book, ready to run, and the events of the stored run by it. Where there are none, says why, and gives the exit status.
+fn own_run_of<R: Runtime + AllocGlobal>(
+    rt: &R,
+    alloc: Global,
+    job: &Job,
+) -> Result<(Rulebook, Vec<Event>), u8>
+    ensures { IfErr result IsStatusOfJob }
+{
+    if reads_input_and_a_file(job) && !has_input(rt) {
+        return Err(tell(rt, &ServeFault::Read));
+    }
+    let book = match book_of(rt, alloc, job.book.as_ref()) {
+        Ok(book) => book,
+        Err(cause) => return Err(tell_cause(rt, &cause)),
+    };
+    let events = match own_stored_of(rt, alloc, &book, job.trace.as_ref()) {
+        Ok(events) => events,
+        Err(cause) => return Err(tell_own(rt, &cause)),
+    };
+    match Rulebook::of(alloc, book) {
+        Ok(rules) => Ok((rules, events)),
+        Err(_) => Err(tell(rt, &ServeFault::Memory)),
+    }
+}
+
+/// Opens the trace's file and reads it as a run by the book; `-`, or no name, is standard input.
+fn own_stored_of<R: Runtime + AllocGlobal>(
+    rt: &R,
+    alloc: Global,
+    book: &Book,
+    path: Option<&String>,
+) -> Result<Vec<Event>, OwnCause> {
+    match path {
+        Some(path) if !is_dash(path) => match File::open(rt, path.as_str()) {
+            Ok(file) => stored_by_book(alloc, book, &mut Device::of(file)),
+            Err(_) => Err(OwnCause::Reading(ServeFault::Read)),
+        },
+        _ => stored_by_book(alloc, book, &mut Device::of(rt.reader())),
+    }
 }
 
 /// Reads the book, the trace and the graph, judges the run, and gives the exit status.
@@ -434,6 +539,14 @@ fn tell<R: Runtime>(rt: &R, fault: &ServeFault) -> u8
 /// Says why there is no book, and gives the exit status.
 fn tell_cause<R: Runtime>(rt: &R, cause: &BookCause) -> u8
     ensures { result ≡ book_status cause.now }
+{
+    let _ = eprintln!(rt; "ghs: {cause}");
+    cause.status()
+}
+
+/// Says why there is no stored run by a book, and gives the exit status.
+fn tell_own<R: Runtime>(rt: &R, cause: &OwnCause) -> u8
+    ensures { result ≡ cause_status cause.now }
 {
     let _ = eprintln!(rt; "ghs: {cause}");
     cause.status()

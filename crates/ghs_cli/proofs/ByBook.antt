@@ -1,23 +1,28 @@
--- What is printed of a run by a book is of that run.
-use Rattle.std.proofs.Common.{◌≡◌, List, Result, Ok, Err, IfErr, IfOk, MatchResult, subst, sym}
+-- What goes out of a run by a book is of that run.
+use Rattle.std.proofs.Common.{◌≡◌, List, Option, Result, Ok, Err}
+use Rattle.std.specs.Prelude.{IfErr, IfOk}
 use Rattle.ghs_graph.specs.Graph.{Shape}
 use Rattle.own_book.specs.Entry.{Entry}
 use Rattle.own_rules.specs.declared.run.BookRun.{BookRun}
+use Rattle.own_runs.specs.Mark.{mark_of}
 use Rattle.ghs_commands.specs.declared.job.RunOptions.{RunOptions}
-use Rattle.ghs_cli.specs.ByBook.{IsCutOff, IsOwnRun, IsOwnText, IsPrintedAs, StopsOwn}
-use Rattle.ghs_cli.specs.declared.by_book.OwnTold.{OwnTold}
+use Rattle.ghs_cli.specs.ByBook.{IsOutputOf, IsOwnOutput, IsOwnRun, StopsOutput, StopsOwn}
+use Rattle.ghs_cli.specs.declared.by_book.OwnOutput.{OwnOutput}
 use Rattle.ghs_cli.specs.declared.fault.ServeFault.{ServeFault}
-use Rattle.ghs_cli.specs.declared.fault.ServeFault.TheVariants.{TurnLimit}
+use Rattle.ghs_cli.specs.declared.fault.ServeFault.TheVariants as serve
 
 module _ (o : RunOptions) (g : Shape) (book : List Entry) (ran : BookRun) (run : IsOwnRun o g book ran) where
-  pub text_of_run : (x : Result OwnTold ServeFault) →
-      MatchResult x (λ told. IsPrintedAs ran told.end told.text.items) (λ fault. (fault ≡ TurnLimit) × IsCutOff ran) →
-      IfOk x (λ told. IsOwnText o g book told.end told.text.items)
-  text_of_run (Ok told) printed = record { ran = ran; run = run; printed = printed }
-  text_of_run (Err fault) cut = tt
+  pub output_of_run : (x : Result OwnOutput ServeFault) →
+      IfOk x (λ out. IsOutputOf o.show (mark_of book) ran out.end out.text.items) →
+      IfOk x (λ out. IsOwnOutput o g book out.end out.text.items)
+  output_of_run (Ok out) printed = record { ran = ran; run = run; printed = printed }
+  output_of_run (Err fault) printed = tt
 
-  pub stop_of_run : (x : Result OwnTold ServeFault) →
-      MatchResult x (λ told. IsPrintedAs ran told.end told.text.items) (λ fault. (fault ≡ TurnLimit) × IsCutOff ran) →
-      IfErr x (StopsOwn o g book)
-  stop_of_run (Ok told) printed = tt
-  stop_of_run (Err fault) cut = subst (StopsOwn o g book) (sym cut.0) (record { ran = ran; run = run; cut = cut.1 })
+  stop_so : (fault : ServeFault) → StopsOutput o.show ran fault → StopsOwn o g book fault
+  stop_so serve.TurnLimit stops = record { ran = ran; run = run; stops = stops }
+  stop_so serve.Memory stops = tt
+  stop_so fault stops = absurd stops
+
+  pub stop_of_run : (x : Result OwnOutput ServeFault) → IfErr x (StopsOutput o.show ran) → IfErr x (StopsOwn o g book)
+  stop_of_run (Ok out) stops = tt
+  stop_of_run (Err fault) stops = stop_so fault stops

@@ -1,4 +1,5 @@
 -- Serves the proofs: nothing here has to be believed.
+mod AgainByBook
 mod AnyExplorations
 mod AnyRun
 mod ByBook

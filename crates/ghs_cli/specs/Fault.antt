@@ -46,6 +46,7 @@ of_trace trace.Memory = serve.Memory
 
 abbrev pub of_stored : StoredFault → ServeFault
 of_stored (stored.Other p) = serve.TraceOf p
+of_stored stored.Own = serve.TraceOfOwn
 of_stored (stored.Trace fault) = of_trace fault
 
 abbrev pub of_replay : ReplayFault → ServeFault
@@ -88,6 +89,7 @@ status_of (serve.TraceBadLine line) = 1
 status_of (serve.TraceNumber line) = 1
 status_of (serve.TraceCount said found) = 1
 status_of (serve.TraceOf p) = 1
+status_of serve.TraceOfOwn = 1
 status_of (serve.NotLawful k) = 1
 status_of serve.PageTooLarge = 1
 status_of serve.NodesOutside = 1

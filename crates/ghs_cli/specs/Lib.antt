@@ -1,4 +1,5 @@
 -- To be believed: contracts cite what stands here, and what it is made of.
+pub mod AgainByBook
 pub mod AnyExplore
 pub mod AnyRun
 pub mod AnyView

@@ -22,7 +22,8 @@ use Rattle.peer_network.specs.declared.wake_set.WakeSet.{WakeSet}
 use Rattle.peer_network.specs.declared.wake_set.WakeSet.TheVariants.{All}
 use Rattle.peer_texts.specs.declared.fault.TraceFault.TheVariants as trace
 use Rattle.peer_trace.specs.Reading.{HasEventsOf, HasFaultOf}
-use Rattle.peer_trace.specs.declared.fault.StoredFault.TheVariants.{Other, Trace}
+use Rattle.peer_trace.specs.declared.fault.StoredFault.{StoredFault}
+use Rattle.peer_trace.specs.declared.fault.StoredFault.TheVariants.{Other, Own, Trace}
 use Rattle.peer_trace.specs.declared.protocol.Protocol.{Protocol}
 use Rattle.ghs_commands.specs.declared.job.Show.{Show}
 use Rattle.ghs_commands.specs.declared.job.Show.TheVariants.{Summary, Events, Time}
@@ -56,16 +57,21 @@ IsTextOf wake input g = (graph : RawShape) × IsRead wake input graph × (g ≡ 
 abbrev pub IsTraceText : Protocol → List ℕ → List Event → Type 0
 IsTraceText p stored events = (IsTooLong stored → ⊥) × HasEventsOf p stored events
 
--- what is stored gives this fault to who asks for a run of the protocol; it may be too long, and the reader and memory may fail for any
+-- what is stored gives this fault, by the faults that it has as a text of a trace; it may be too long, and the reader and memory may fail for any
+abbrev pub IsStoredCause : (StoredFault → Type 0) → List ℕ → ServeFault → Type 0
+IsStoredCause Has stored (serve.TraceBadLine line) = (IsTooLong stored → ⊥) × Has (Trace (trace.BadLine line))
+IsStoredCause Has stored (serve.TraceNumber line) = (IsTooLong stored → ⊥) × Has (Trace (trace.Number line))
+IsStoredCause Has stored (serve.TraceCount said found) = (IsTooLong stored → ⊥) × Has (Trace (trace.Count said found))
+IsStoredCause Has stored (serve.TraceOf other) = (IsTooLong stored → ⊥) × Has (Other other)
+IsStoredCause Has stored serve.TraceOfOwn = (IsTooLong stored → ⊥) × Has Own
+IsStoredCause Has stored serve.TooLong = IsTooLong stored
+IsStoredCause Has stored serve.Memory = Unit {0}
+IsStoredCause Has stored serve.Read = Unit {0}
+IsStoredCause Has stored _ = ⊥
+
+-- to who asks for a run of this protocol
 abbrev pub IsTraceCause : Protocol → List ℕ → ServeFault → Type 0
-IsTraceCause p stored (serve.TraceBadLine line) = (IsTooLong stored → ⊥) × HasFaultOf p stored (Trace (trace.BadLine line))
-IsTraceCause p stored (serve.TraceNumber line) = (IsTooLong stored → ⊥) × HasFaultOf p stored (Trace (trace.Number line))
-IsTraceCause p stored (serve.TraceCount said found) = (IsTooLong stored → ⊥) × HasFaultOf p stored (Trace (trace.Count said found))
-IsTraceCause p stored (serve.TraceOf other) = (IsTooLong stored → ⊥) × HasFaultOf p stored (Other other)
-IsTraceCause p stored serve.TooLong = IsTooLong stored
-IsTraceCause p stored serve.Memory = Unit {0}
-IsTraceCause p stored serve.Read = Unit {0}
-IsTraceCause p stored _ = ⊥
+IsTraceCause p stored = IsStoredCause (HasFaultOf p stored) stored
 
 -- the input gives this fault, or is the text of a graph that lacks a node which the wake set lists; the reader and memory may fail for any
 abbrev pub IsGraphCause : WakeSet → List ℕ → ServeFault → Type 0

@@ -1,18 +1,21 @@
 //! Runs by a user's own protocol, whose rules are a book.
 ghost use Rattle.ghs_cli.specs.Judging.{IsUnwritten};
-ghost use Rattle.ghs_cli.specs.ByBook.{HasRunOwn, IsCutOff, IsOwnText, IsPrintedAs, StopsOwn, own_status};
-ghost use Rattle.ghs_cli.specs.declared.fault.ServeFault.TheVariants.{TurnLimit};
-ghost use Rattle.std.specs.Prelude.{◌≡◌, ◌↔◌, false, true, IfErr, IfOk, MatchResult};
+ghost use Rattle.ghs_cli.specs.ByBook.{HasRunOwn, IsCutOff, IsOutputOf, IsOwnEnd, IsOwnOutput, IsPrintedAs, IsShownOwn, StopsOutput, StopsOwn, own_status};
+ghost use Rattle.own_runs.specs.Mark.{mark_of as mark_of_book};
+ghost use Rattle.std.specs.Prelude.{◌≡◌, ◌↔◌, false, true, IfErr, IfNone, IfOk, IfSome};
 
 use crate::fault::ServeFault;
-use ghs_commands::job::RunOptions;
+use ghs_commands::job::{RunOptions, Show};
 use ghs_gr::device::Sink;
 use ghs_graph::graph::Graph;
 use ghs_report::write_out::write_out;
 use own_book::book::Book;
 use own_rules::rulebook::Rulebook;
 use own_rules::run::{BookRun, run_book};
-use std::alloc::Global;
+use own_runs::mark::mark_of;
+use peer_trace::mark::OwnMark;
+use peer_trace::own::write_own_trace;
+use std::alloc::{AllocError, Global};
 
 /// How a run by a book ends.
 #[derive(Clone, Copy, Debug, Drop, PartialEq, Eq)]
@@ -38,17 +41,18 @@ impl OwnEnd {
     }
 }
 
-/// How a run by a book ends, and what is printed of it.
+/// How a run by a book ends, and what goes out of it. It has no end where its turns are used; then that is its events.
 #[derive(Drop)]
-struct OwnTold {
-    end: OwnEnd,
+struct OwnOutput {
+    end: Option<OwnEnd>,
     text: Vec<u8>,
 }
 
 /// Runs a graph by a book, as the seed, the turns and the wake set of the options say, writes what that comes to, and says how it
 /// ends: the questions that the book lacks; where it lacks none, what is said of nodes that have stopped by an answer; where
-/// none has, the account of the run. The text is made whole before its first byte goes out. Faults: lack of memory; the turns
-/// are used; and then a write that fails.
+/// none has, the events of the run if the options ask for them, and else its account. The text is made whole before its first
+/// byte goes out. Faults: lack of memory; the turns are used, where the events go out before if they are asked for, and else
+/// nothing; and a write that fails.
 ///
 /// ```text
 /// let end = run_by_book(alloc, &options, graph, book, &mut out)?;
@@ -65,33 +69,39 @@ pub fn run_by_book<W: Sink>(
     ensures run { HasRunOwn options.now graph book (W.held out.old) (W.held out.new) result }
     ensures write { IsUnwritten result ↔ (W.has_failed out.new ≡ true) }
 {
-    let told = told_by(alloc, options, graph, book)?;
-    write_out(out, &told.text)?;
-    Ok(told.end)
+    let output = output_by(alloc, options, graph, book)?;
+    write_out(out, &output.text)?;
+    match output.end {
+        Some(end) => Ok(end),
+        None => Err(ServeFault::TurnLimit),
+    }
 }
 
-/// What is printed of the run by a book.
-fn told_by(
+/// What goes out of the run by a book.
+fn output_by(
     alloc: Global,
     options: &RunOptions,
     graph: Graph,
     book: Book,
-) -> Result<OwnTold, ServeFault>
-    ensures text { IfOk result (λ told. IsOwnText options.now graph book told.end told.text.items) }
+) -> Result<OwnOutput, ServeFault>
+    ensures output { IfOk result (λ o. IsOwnOutput options.now graph book o.end o.text.items) }
     ensures fault { IfErr result (StopsOwn options.now graph book) }
 {
+    let mark = mark_of(alloc, &book)?;
     let rules = Rulebook::of(alloc, book)?;
-    told_under(alloc, options, graph, &rules)
+    output_under(alloc, options, graph, &mark, &rules)
 }
 
-/// The same of a book that is ready to run.
-fn told_under(
+/// The same of a book that is ready to run, and has this mark.
+fn output_under(
     alloc: Global,
     options: &RunOptions,
     graph: Graph,
+    mark: &OwnMark,
     rules: &Rulebook,
-) -> Result<OwnTold, ServeFault>
-    ensures text { IfOk result (λ told. IsOwnText options.now graph rules.now told.end told.text.items) }
+) -> Result<OwnOutput, ServeFault>
+    requires { mark.now ≡ mark_of_book rules.now }
+    ensures output { IfOk result (λ o. IsOwnOutput options.now graph rules.now o.end o.text.items) }
     ensures fault { IfErr result (StopsOwn options.now graph rules.now) }
 {
     let ran = run_book(
@@ -102,30 +112,84 @@ fn told_under(
         options.seed,
         options.turns,
     )?;
-    told_of(ran)
+    output_of(alloc, options.show, mark, ran)
 }
 
-/// Which of the texts of a run is printed.
-fn told_of(ran: BookRun) -> Result<OwnTold, ServeFault>
-    ensures { MatchResult result (λ told. IsPrintedAs ran told.end told.text.items) (λ fault. (fault ≡ TurnLimit) × IsCutOff ran) }
+/// The same of a run.
+fn output_of(
+    alloc: Global,
+    show: Show,
+    mark: &OwnMark,
+    ran: BookRun,
+) -> Result<OwnOutput, ServeFault>
+    ensures output { IfOk result (λ o. IsOutputOf show mark.now ran o.end o.text.items) }
+    ensures fault { IfErr result (StopsOutput show ran) }
+{
+    match end_of(&ran) {
+        Some(end) => Ok(OwnOutput {
+            end: Some(end),
+            text: text_at(alloc, show, mark, end, ran)?,
+        }),
+        None => cut_off(alloc, show, mark, ran),
+    }
+}
+
+/// How a run by a book ends; none where it goes on, though no node has stopped.
+pub(crate) fn end_of(ran: &BookRun) -> Option<OwnEnd>
+    ensures some { IfSome result (IsOwnEnd ran.now) }
+    ensures none { IfNone result (IsCutOff ran.now) }
 {
     if !ran.lacking.is_empty() {
-        return Ok(OwnTold {
-            end: OwnEnd::Asks,
-            text: ran.lacking,
-        });
+        return Some(OwnEnd::Asks);
     }
     if !ran.faults.is_empty() {
-        return Ok(OwnTold {
-            end: OwnEnd::Fails,
-            text: ran.faults,
-        });
+        return Some(OwnEnd::Fails);
     }
     if ran.at_limit {
-        return Err(ServeFault::TurnLimit);
+        return None;
     }
-    Ok(OwnTold {
-        end: OwnEnd::Ended,
-        text: ran.account,
-    })
+    Some(OwnEnd::Ended)
+}
+
+/// What is printed of a run by a book that ends so.
+fn text_at(
+    alloc: Global,
+    show: Show,
+    mark: &OwnMark,
+    end: OwnEnd,
+    ran: BookRun,
+) -> Result<Vec<u8>, AllocError>
+    requires { IsOwnEnd ran end }
+    ensures { IfOk result (λ text. IsPrintedAs (IsShownOwn show mark.now ran) ran end text.items) }
+{
+    match end {
+        OwnEnd::Asks => Ok(ran.lacking),
+        OwnEnd::Fails => Ok(ran.faults),
+        OwnEnd::Ended => shown(alloc, show, mark, ran),
+    }
+}
+
+/// What is shown of a run by a book.
+fn shown(alloc: Global, show: Show, mark: &OwnMark, ran: BookRun) -> Result<Vec<u8>, AllocError>
+    ensures { IfOk result (λ text. IsShownOwn show mark.now ran text.items) }
+{
+    match show {
+        Show::Events => write_own_trace(alloc, mark, &ran.events),
+        Show::Summary | Show::Time => Ok(ran.account),
+    }
+}
+
+/// What goes out of a run whose turns are used: its events, where they are asked for.
+fn cut_off(alloc: Global, show: Show, mark: &OwnMark, ran: BookRun) -> Result<OwnOutput, ServeFault>
+    requires { IsCutOff ran }
+    ensures output { IfOk result (λ o. IsOutputOf show mark.now ran o.end o.text.items) }
+    ensures fault { IfErr result (StopsOutput show ran) }
+{
+    match show {
+        Show::Summary | Show::Time => Err(ServeFault::TurnLimit),
+        Show::Events => Ok(OwnOutput {
+            end: None,
+            text: write_own_trace(alloc, mark, &ran.events)?,
+        }),
+    }
 }

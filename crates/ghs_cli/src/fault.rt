@@ -48,6 +48,9 @@ pub enum ServeFault {
     /// It is one of this other protocol.
     #[error("the trace is of --protocol {}", .0.name())]
     TraceOf(Protocol),
+    /// It is one of a user's own protocol.
+    #[error("the trace is of --protocol own")]
+    TraceOfOwn,
     #[error("trace event {0} is not lawful")]
     NotLawful(u64),
     #[error("page too large: at most {nodes} nodes and {events} events; --to shortens it, --from only opens it later", nodes = PAGE_NODES, events = PAGE_EVENTS)]
@@ -167,6 +170,7 @@ impl From<StoredFault> for ServeFault {
     fn from(fault: StoredFault) -> ServeFault {
         match fault {
             StoredFault::Other(protocol) => ServeFault::TraceOf(protocol),
+            StoredFault::Own => ServeFault::TraceOfOwn,
             StoredFault::Trace(fault) => fault.into(),
         }
     }

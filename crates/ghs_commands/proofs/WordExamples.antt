@@ -6,7 +6,7 @@ use Rattle.clap.specs.Words.{Text}
 use Rattle.ghs_commands.specs.Grammar.{program}
 use Rattle.peer_trace.specs.declared.protocol.Protocol.TheVariants.{Boruvka, Ghs}
 use Rattle.ghs_commands.specs.Wakers.{listed}
-use Rattle.ghs_commands.specs.Job.{command_in, kinds_of, name_in, protocols_in, runs_own, value_in}
+use Rattle.ghs_commands.specs.Job.{command_in, is_own, kinds_of, name_in, protocols_in, value_in}
 
 tree-taken : kinds_of (codes "tree" ∷ []) ≡ []
 unfolding program clap_on_literals
@@ -141,11 +141,11 @@ own-taken : kinds_of (by_book []) ≡ []
 unfolding program clap_on_literals
 own-taken = refl
 
-own-asked : runs_own (command_in (by_book [])) ≡ true
+own-asked : is_own (command_in (by_book [])) ≡ true
 unfolding program clap_on_literals
 own-asked = refl
 
-own-not_asked : runs_own (command_in (codes "run" ∷ codes "--protocol" ∷ codes "echo" ∷ [])) ≡ false
+own-not_asked : is_own (command_in (codes "run" ∷ codes "--protocol" ∷ codes "echo" ∷ [])) ≡ false
 unfolding program clap_on_literals
 own-not_asked = refl
 
@@ -171,9 +171,13 @@ last_of_own-refused : kinds_of (by_book (codes "--schedule" ∷ codes "lifo" ∷
 unfolding program clap_on_literals
 last_of_own-refused = refl
 
-events_of_own-refused : kinds_of (by_book (codes "--print" ∷ codes "trace" ∷ [])) ≡ kind.InvalidValue ∷ []
+events_of_own-taken : kinds_of (by_book (codes "--print" ∷ codes "trace" ∷ [])) ≡ []
 unfolding program clap_on_literals
-events_of_own-refused = refl
+events_of_own-taken = refl
+
+time_of_own-refused : kinds_of (by_book (codes "--print" ∷ codes "time" ∷ [])) ≡ kind.InvalidValue ∷ []
+unfolding program clap_on_literals
+time_of_own-refused = refl
 
 core_of_own-refused : kinds_of (by_book (codes "--core" ∷ [])) ≡ kind.InvalidValue ∷ []
 unfolding program clap_on_literals
@@ -187,6 +191,31 @@ own_in_all_runs-refused = refl
 book_of_ghs-refused : kinds_of (codes "run" ∷ codes "--book" ∷ codes "b.txt" ∷ []) ≡ kind.InvalidValue ∷ []
 unfolding program clap_on_literals
 book_of_ghs-refused = refl
+
+-- a stored run by a user's own protocol
+abbrev again_by_own : Text → List Text → List Text
+again_by_own name words = name ∷ codes "run.trace" ∷ codes "map.gr" ∷ codes "--protocol" ∷ codes "own" ∷ words
+
+replay_of_own-taken : kinds_of (again_by_own (codes "replay") (codes "--book" ∷ codes "b.txt" ∷ codes "--wake" ∷ codes "first" ∷ [])) ≡ []
+unfolding program clap_on_literals
+replay_of_own-taken = refl
+
+steps_of_own-asked : is_own (command_in (again_by_own (codes "steps") (codes "--book" ∷ codes "b.txt" ∷ codes "--json" ∷ []))) ≡ true
+unfolding program clap_on_literals
+steps_of_own-asked = refl
+
+replay_without_book-refused : kinds_of (again_by_own (codes "replay") []) ≡ kind.InvalidValue ∷ []
+unfolding program clap_on_literals
+replay_without_book-refused = refl
+
+steps_by_book_of_ghs-refused :
+    kinds_of (codes "steps" ∷ codes "run.trace" ∷ codes "map.gr" ∷ codes "--book" ∷ codes "b.txt" ∷ []) ≡ kind.InvalidValue ∷ []
+unfolding program clap_on_literals
+steps_by_book_of_ghs-refused = refl
+
+judge-not_own : is_own (command_in (codes "judge" ∷ codes "--book" ∷ codes "b.txt" ∷ codes "run.trace" ∷ [])) ≡ false
+unfolding program clap_on_literals
+judge-not_own = refl
 
 book_of_echo-refused :
     kinds_of (codes "run" ∷ codes "--protocol" ∷ codes "echo" ∷ codes "--book" ∷ codes "b.txt" ∷ []) ≡ kind.InvalidValue ∷ []

@@ -115,7 +115,7 @@ core_rule = flag_rule (codes "core")
 abbrev pub wake_rule : Rule
 wake_rule = option_rule (codes "wake") (codes "all")
 
--- `--book` where it may be left out: the book by whose rules the nodes of a run go, or that all runs are compared with
+-- `--book` where it may be left out: the book by whose rules the nodes go, or that all runs are compared with
 abbrev pub own_rule : Rule
 own_rule = record (new_rule (codes "book")) { long = Some (codes "book") }
 
@@ -132,14 +132,16 @@ run_command =
     ∷ turns_rule ∷ print_rule ∷ core_rule ∷ progress_rule ∷ tally_rule ∷ [])
     (new_app (codes "run"))
 
--- `replay TRACE [FILE] [--protocol ghs|boruvka|echo] [--wake all|first|V,..]`
+-- `replay TRACE [FILE] [--protocol ghs|boruvka|echo|own] [--book BOOK] [--wake all|first|V,..]`
 abbrev pub replay_command : App
-replay_command = with_rules (trace_rule ∷ file_rule ∷ protocol_rule ∷ wake_rule ∷ []) (new_app (codes "replay"))
+replay_command = with_rules (trace_rule ∷ file_rule ∷ protocol_rule ∷ own_rule ∷ wake_rule ∷ []) (new_app (codes "replay"))
 
--- `steps TRACE [FILE] [--protocol ghs|boruvka|echo] [--wake all|first|V,..] [--from A] [--to B] [--node V] [--json]`
+-- `steps TRACE [FILE] [--protocol ghs|boruvka|echo|own] [--book BOOK] [--wake all|first|V,..] [--from A] [--to B] [--node V] [--json]`
 abbrev pub steps_command : App
 steps_command =
-    with_rules (trace_rule ∷ file_rule ∷ protocol_rule ∷ wake_rule ∷ from_rule ∷ to_rule ∷ node_rule ∷ json_rule ∷ []) (new_app (codes "steps"))
+    with_rules
+    (trace_rule ∷ file_rule ∷ protocol_rule ∷ own_rule ∷ wake_rule ∷ from_rule ∷ to_rule ∷ node_rule ∷ json_rule ∷ [])
+    (new_app (codes "steps"))
 
 -- `--book`: the book by which a stored run is judged
 abbrev pub book_rule : Rule

@@ -167,13 +167,14 @@ pub record AreOptions (command : Used) (o : RunOptions) : Type 0 where
   pub progress : IsToldOf command o.progress
   pub tally : IsTallyOf command o.tally
 
--- only a run has something to print of it
-abbrev pub is_run : Used → Bool
-is_run command = not (is_none (value_in (codes "print") command))
+-- a run may be by a user's own protocol, and so may a stored run be that is played again, or whose steps are shown
+abbrev pub may_be_own : Used → Bool
+may_be_own command =
+    is_said (codes "run") (name_in command) || is_said (codes "replay") (name_in command) || is_said (codes "steps") (name_in command)
 
--- a run goes by a user's own protocol, whose rules are the lines of a book
-abbrev pub runs_own : Used → Bool
-runs_own command = is_run command && is_said (codes "own") (value_in (codes "protocol") command)
+-- it is: the rules are the lines of a book
+abbrev pub is_own : Used → Bool
+is_own command = may_be_own command && is_said (codes "own") (value_in (codes "protocol") command)
 
 -- the protocol that `--protocol` names; it names one that there is, or the words are refused, and a command without it is of GHS, as one
 -- by a user's own, whose book counts in its place
@@ -415,35 +416,35 @@ fits_every command = runs_so command && sweeps_so command
 abbrev pub is_of_ghs : Used → Bool
 is_of_ghs command = are_ghs (value_in (codes "protocol") command) && are_ghs (value_in (codes "protocols") command)
 
--- a run goes by a book
-abbrev pub runs_by_book : Used → Bool
-runs_by_book command = is_run command && not (is_none (value_in (codes "book") command))
+-- it has a book of rules
+abbrev pub has_rules : Used → Bool
+has_rules command = may_be_own command && not (is_none (value_in (codes "book") command))
 
 -- a protocol that there is has rules of its own, so no run of it goes by a book
 abbrev pub fits_known : Used → Bool
-fits_known command = not (runs_by_book command) && (is_of_ghs command || fits_every command)
+fits_known command = not (has_rules command) && (is_of_ghs command || fits_every command)
 
 -- how a network is run goes with a user's own protocol: no threads, the schedule that picks among all events alone, and what is printed is
--- the report alone, without cores; nothing is told of the run
+-- the report or the events, without cores; nothing is told of the run
 abbrev pub goes_with_own : Used → Bool
 goes_with_own command =
     is_number 0 0 (value_in (codes "workers") command)
     && is_among (codes "seeded" ∷ []) (value_in (codes "schedule") command)
-    && is_among (codes "report" ∷ []) (value_in (codes "print") command)
+    && is_among (codes "report" ∷ codes "trace" ∷ []) (value_in (codes "print") command)
     && not (is_said (codes "true") (value_in (codes "core") command))
     && not (is_said (codes "true") (value_in (codes "progress") command))
     && not (is_said (codes "true") (value_in (codes "tally") command))
 
 -- a user's own has to have a book
 abbrev pub fits_own : Used → Bool
-fits_own command = runs_by_book command && goes_with_own command
+fits_own command = has_rules command && goes_with_own command
 
 abbrev pub fits_protocol : Used → Bool
-fits_protocol command = if runs_own command then fits_own command else fits_known command
+fits_protocol command = if is_own command then fits_own command else fits_known command
 
--- it names a protocol that there is, or as a run a user's own
+-- it names a protocol that there is, or where that may be a user's own
 abbrev pub names_protocol : Used → Bool
-names_protocol command = runs_own command || is_protocol (value_in (codes "protocol") command)
+names_protocol command = is_own command || is_protocol (value_in (codes "protocol") command)
 
 -- there is such a protocol, or are such protocols of a sweep, and all that is asked for goes with them
 abbrev pub has_protocol : Used → Bool

@@ -1,6 +1,6 @@
 //! What doesn't go with every protocol, and what doesn't with a user's own.
 ghost use Rattle.clap.specs.Words.{subcommand_rows_of};
-ghost use Rattle.ghs_commands.specs.Job.{fits_every, goes_with_own, is_exploration, is_run, is_sweep, runs_by_book, runs_own, runs_so, sweeps_so};
+ghost use Rattle.ghs_commands.specs.Job.{fits_every, goes_with_own, has_rules, is_exploration, is_own, is_sweep, may_be_own, runs_so, sweeps_so};
 ghost use Rattle.std.specs.Prelude.{◌≡◌, is_none};
 
 use crate::job::value_of;
@@ -46,7 +46,7 @@ fn stranger_of_run<'a>(matches: &ArgMatches<'a>) -> Option<&'static str>
     }
 }
 
-/// The first argument that doesn't go with a user's own protocol, which a run alone may have.
+/// The first argument that doesn't go with a user's own protocol.
 pub(crate) fn stranger_to_own<'a>(matches: &ArgMatches<'a>) -> Option<&'static str>
     ensures { is_none result ≡ goes_with_own (subcommand_rows_of matches.now) }
 {
@@ -54,7 +54,7 @@ pub(crate) fn stranger_to_own<'a>(matches: &ArgMatches<'a>) -> Option<&'static s
         Some("--workers <workers>")
     } else if !is_among(value_of(matches, "schedule"), &["seeded"]) {
         Some("--schedule <schedule>")
-    } else if !is_among(value_of(matches, "print"), &["report"]) {
+    } else if !is_among(value_of(matches, "print"), &["report", "trace"]) {
         Some("--print <print>")
     } else if is_said(value_of(matches, "core"), "true") {
         Some("--core")
@@ -67,25 +67,26 @@ pub(crate) fn stranger_to_own<'a>(matches: &ArgMatches<'a>) -> Option<&'static s
     }
 }
 
-/// Whether the command is a run by a user's own protocol, whose rules are the lines of a book.
-pub(crate) fn runs_own<'a>(matches: &ArgMatches<'a>) -> bool
-    ensures { result ≡ runs_own (subcommand_rows_of matches.now) }
+/// Whether the command goes by a user's own protocol, whose rules are the lines of a book.
+pub(crate) fn is_own<'a>(matches: &ArgMatches<'a>) -> bool
+    ensures { result ≡ is_own (subcommand_rows_of matches.now) }
 {
-    is_run(matches) && is_said(value_of(matches, "protocol"), "own")
+    may_be_own(matches) && is_said(value_of(matches, "protocol"), "own")
 }
 
-/// Whether it is a run that goes by a book.
-pub(crate) fn runs_by_book<'a>(matches: &ArgMatches<'a>) -> bool
-    ensures { result ≡ runs_by_book (subcommand_rows_of matches.now) }
+/// Whether it has a book of rules.
+pub(crate) fn has_rules<'a>(matches: &ArgMatches<'a>) -> bool
+    ensures { result ≡ has_rules (subcommand_rows_of matches.now) }
 {
-    is_run(matches) && value_of(matches, "book").is_some()
+    may_be_own(matches) && value_of(matches, "book").is_some()
 }
 
-/// Whether it is a run: only a run has something to print of it.
-pub(crate) fn is_run<'a>(matches: &ArgMatches<'a>) -> bool
-    ensures { result ≡ is_run (subcommand_rows_of matches.now) }
+/// Whether it may go by a user's own protocol.
+pub(crate) fn may_be_own<'a>(matches: &ArgMatches<'a>) -> bool
+    ensures { result ≡ may_be_own (subcommand_rows_of matches.now) }
 {
-    value_of(matches, "print").is_some()
+    let name = matches.subcommand_name();
+    is_said(name, "run") || is_said(name, "replay") || is_said(name, "steps")
 }
 
 /// Whether the command is a sweep: only a sweep has a sheet.

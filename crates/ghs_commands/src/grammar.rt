@@ -9,7 +9,7 @@ use clap::{Arg, ArgAction, Command};
 use std::alloc::{AllocError, Global};
 
 /// The program's version, and by which kit its proofs hold.
-pub const VERSION: &str = "2.3.0, proved with rattle-kit-13b logic dac8208d650f15bf";
+pub const VERSION: &str = "2.4.0, proved with rattle-kit-13f logic dac8208d650f15bf";
 
 /// The program's commands, with their help.
 #[tactic(auto, unfolding(crate::specs::Grammar::program))]
@@ -102,7 +102,13 @@ fn replay<'a>(alloc: Global) -> Result<Command<'a>, AllocError>
     ensures local { IfOk result (λ command. (out-Command command).has_globals ≡ false) }
     ensures app { IfOk result (λ command. app_of command ≡ replay_command) }
 {
-    let arguments = vec![in alloc; trace(alloc), file(alloc), protocol(alloc), wake(alloc)]?;
+    let arguments = vec![in alloc;
+        trace(alloc),
+        file(alloc),
+        protocol(alloc),
+        rule_book(alloc),
+        wake(alloc),
+    ]?;
     Ok(command(
         alloc,
         "replay",
@@ -120,6 +126,7 @@ fn steps<'a>(alloc: Global) -> Result<Command<'a>, AllocError>
         trace(alloc),
         file(alloc),
         protocol(alloc),
+        rule_book(alloc),
         wake(alloc),
         from(alloc),
         to(alloc),

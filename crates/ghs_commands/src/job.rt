@@ -1,7 +1,7 @@
 //! Command lines.
 ghost use Rattle.ghs_commands.specs.declared.job.JobFault.TheVariants.{Memory};
 ghost use Rattle.ghs_commands.specs.Grammar.{program};
-ghost use Rattle.ghs_commands.specs.Job.{AreNetworks, AreOptions, IsAsked, kind_in, links_in, weights_in, AreStepsOptions, IsChoice, AreSweepLimits, AreSweepOptions, AreWithinLimits, by_in, command_in, first_seed_in, has_choices, has_course, has_events, has_figures, has_network, has_numbers, has_prints, has_seeds, has_sizes, has_sources, has_values, kinds_of, name_in, node_in, number_at, option_kinds, pair_in, protocol_in, second_seed_in, seeds_at, value_in, with_name, IsForm, IsOfSeed, IsScheduleKind, IsRefused, PlaysAgain, IsSaid, IsSaidOf, IsSheet, IsShow, IsTask, IsWake, IsWithinLimits, AreStoredViewOptions, AreViewLimits, AreViewOptions};
+ghost use Rattle.ghs_commands.specs.Job.{AreNetworks, AreOptions, IsAsked, kind_in, links_in, weights_in, AreStepsOptions, IsChoice, AreSweepLimits, AreSweepOptions, AreWithinLimits, by_in, command_in, first_seed_in, has_choices, has_course, has_events, has_figures, has_network, has_numbers, has_prints, has_seeds, has_sizes, has_sources, has_values, kinds_of, name_in, node_in, number_at, option_kinds, pair_in, protocol_in, second_seed_in, seeds_at, value_in, is_own, with_name, IsForm, IsOfSeed, IsScheduleKind, IsRefused, PlaysAgain, IsSaid, IsSaidOf, IsSheet, IsShow, IsTask, IsWake, IsWithinLimits, AreStoredViewOptions, AreViewLimits, AreViewOptions};
 ghost use Rattle.ghs_commands.specs.Values.{AreSeeds, are_apart, are_weights, is_among, is_kind, is_number, is_range};
 ghost use Rattle.ghs_commands.specs.Networks.{are_read_once, values_in};
 ghost use Rattle.ghs_commands.specs.Parts.{go_together, is_part};
@@ -12,6 +12,7 @@ ghost use Rattle.std.specs.Option.{option_map};
 ghost use Rattle.std.specs.Prelude.{◌≡◌, ◌≢◌, ◌≤◌, ◌↔◌, ◌∷◌, [], IfErr, IfOk, IfSome, IsTrue, OnErr, OnOk, Some, codes, false, map, string_bytes, true};
 
 use crate::exploring::{ExploreOptions, MOST_STATES, exploration_of};
+use crate::fitting::is_own;
 use crate::grammar::program;
 use crate::networks::{are_read_once, input_twice, named_of, values_of};
 use crate::parts::{by_named, go_together, is_part, no_such_sheet};
@@ -152,19 +153,19 @@ pub struct StoredViewOptions {
     pub to: u64,
 }
 
-/// What is to be done, and which protocol the nodes follow.
+/// What is to be done, and which protocol the nodes follow; where the job is by a user's own, `protocol` says nothing.
 #[derive(Debug, Drop)]
 pub enum Task {
     /// Print the minimum spanning forest, and each component's core where that is asked for.
     Tree {
         core: bool,
     },
-    /// Run a network; where the job has a book, by that, and `protocol` says nothing.
+    /// Run a network.
     Run {
         protocol: Protocol,
         options: RunOptions,
     },
-    /// Play a stored run again, beside the node that a book is where the job has one.
+    /// Play a stored run again; beside the node that a book is, where the job has one and isn't by a user's own protocol.
     Replay {
         protocol: Protocol,
         wake: WakeSet,
@@ -201,14 +202,15 @@ pub enum Task {
 /// What a command line asks for: the file of the graph (standard input where there is none, or it is `-`), the file of a
 /// stored trace (standard input where it is `-`), the files of the networks of a sweep whose lines begin with names (none
 /// where one network is swept without its name; one at most is `-`, standard input), the file of the book by which a stored
-/// run is judged (none where it's only played again), or the nodes of a run go, or with which all runs are compared (none
-/// where they are only explored), and the task.
+/// run is judged (none where it's only played again), or the nodes go, or with which all runs are compared (none where they
+/// are only explored), whether the nodes go by it, since the protocol is a user's own, and the task.
 #[derive(Debug, Drop)]
 pub struct Job {
     pub graph: Option<String>,
     pub trace: Option<String>,
     pub networks: Vec<String>,
     pub book: Option<String>,
+    pub own: bool,
     pub task: Task,
 }
 
@@ -245,6 +247,7 @@ pub fn read_job(alloc: Global, words: &[String]) -> Result<Job, JobFault>
     ensures graph { IfOk result (λ job. option_map string_bytes job.graph ≡ value_in (codes "FILE") (command_in (map string_bytes words.now))) }
     ensures networks { IfOk result (λ job. AreNetworks (command_in (map string_bytes words.now)) (map string_bytes job.networks.items)) }
     ensures book { IfOk result (λ job. option_map string_bytes job.book ≡ value_in (codes "book") (command_in (map string_bytes words.now))) }
+    ensures own { IfOk result (λ job. job.own ≡ is_own (command_in (map string_bytes words.now))) }
     ensures limits { IfOk result (λ job. IsWithinLimits job.task) }
     ensures taken { OnOk result (kinds_of (map string_bytes words.now) ≡ []) }
     ensures fault { IfErr result (IsSaidOf (kinds_of (map string_bytes words.now))) }
@@ -275,6 +278,7 @@ fn job_of<'a>(alloc: Global, matches: &ArgMatches<'a>) -> Result<Job, JobFault>
     ensures graph { IfOk result (λ job. option_map string_bytes job.graph ≡ value_in (codes "FILE") (subcommand_rows_of matches.now)) }
     ensures networks { IfOk result (λ job. AreNetworks (subcommand_rows_of matches.now) (map string_bytes job.networks.items)) }
     ensures book { IfOk result (λ job. option_map string_bytes job.book ≡ value_in (codes "book") (subcommand_rows_of matches.now)) }
+    ensures own { IfOk result (λ job. job.own ≡ is_own (subcommand_rows_of matches.now)) }
     ensures limits { IfOk result (λ job. IsWithinLimits job.task) }
     ensures taken { OnOk result (option_kinds (subcommand_rows_of matches.now) ≡ []) }
     ensures fault { IfErr result (IsSaidOf (option_kinds (subcommand_rows_of matches.now))) }
@@ -288,6 +292,7 @@ fn job_of<'a>(alloc: Global, matches: &ArgMatches<'a>) -> Result<Job, JobFault>
         trace: owned(alloc, value_of(matches, "TRACE"))?,
         networks: networks_of(alloc, matches)?,
         book: owned(alloc, value_of(matches, "book"))?,
+        own: is_own(matches),
         task: task_of(alloc, matches)?,
     })
 }

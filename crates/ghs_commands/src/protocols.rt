@@ -5,7 +5,7 @@ ghost use Rattle.ghs_commands.specs.Protocols.{are_distinct, are_ghs, are_known,
 ghost use Rattle.std.specs.Option.{option_map};
 ghost use Rattle.std.specs.Prelude.{◌≡◌, IfErr, IfOk, OnErr, OnOk, codes, false, is_none, true};
 
-use crate::fitting::{is_run, runs_by_book, runs_own, stranger_in, stranger_to_own};
+use crate::fitting::{has_rules, is_own, may_be_own, stranger_in, stranger_to_own};
 use crate::job::{JobFault, value_of};
 use crate::values::unknown_choice;
 use clap::ArgMatches;
@@ -15,8 +15,8 @@ use std::alloc::{AllocError, Global};
 /// The names of the protocols that there are.
 const NAMES: &[&str] = &["ghs", "boruvka", "echo"];
 
-/// The names that a run may have: those, and that of a user's own.
-const NAMES_OF_RUN: &[&str] = &["ghs", "boruvka", "echo", "own"];
+/// Those, and that of a user's own, where a command may have that.
+const NAMES_AND_OWN: &[&str] = &["ghs", "boruvka", "echo", "own"];
 
 /// Which protocol the nodes follow.
 pub(crate) fn protocol_of<'a>(matches: &ArgMatches<'a>) -> Protocol
@@ -69,17 +69,21 @@ pub(crate) fn check_protocol<'a>(alloc: Global, matches: &ArgMatches<'a>) -> Res
     check_fit(alloc, matches)
 }
 
-/// Whether there is such a protocol, or the command is a run by a user's own.
+/// Whether there is such a protocol, or the command goes by a user's own.
 fn check_name<'a>(alloc: Global, matches: &ArgMatches<'a>) -> Result<(), JobFault>
     ensures ok { OnOk result (names_protocol (subcommand_rows_of matches.now) ≡ true) }
     ensures err { OnErr result (names_protocol (subcommand_rows_of matches.now) ≡ false) }
     ensures fault { IfErr result IsRefused }
 {
     let value = value_of(matches, "protocol");
-    if runs_own(matches) || is_protocol(value) {
+    if is_own(matches) || is_protocol(value) {
         Ok(())
     } else {
-        let names = if is_run(matches) { NAMES_OF_RUN } else { NAMES };
+        let names = if may_be_own(matches) {
+            NAMES_AND_OWN
+        } else {
+            NAMES
+        };
         Err(unknown_choice(alloc, "protocol", value, names))
     }
 }
@@ -131,20 +135,20 @@ fn check_fit<'a>(alloc: Global, matches: &ArgMatches<'a>) -> Result<(), JobFault
     ensures err { OnErr result (fits_protocol (subcommand_rows_of matches.now) ≡ false) }
     ensures fault { IfErr result IsRefused }
 {
-    if runs_own(matches) {
+    if is_own(matches) {
         check_own(alloc, matches)
     } else {
         check_known(alloc, matches)
     }
 }
 
-/// Whether a run by a user's own protocol has a book, and all that is asked for goes with it.
+/// Whether a command by a user's own protocol has a book, and all that is asked for goes with it.
 fn check_own<'a>(alloc: Global, matches: &ArgMatches<'a>) -> Result<(), JobFault>
     ensures ok { OnOk result (fits_own (subcommand_rows_of matches.now) ≡ true) }
     ensures err { OnErr result (fits_own (subcommand_rows_of matches.now) ≡ false) }
     ensures fault { IfErr result IsRefused }
 {
-    if !runs_by_book(matches) {
+    if !has_rules(matches) {
         return Err(no_book(alloc));
     }
     match stranger_to_own(matches) {
@@ -159,7 +163,7 @@ fn check_known<'a>(alloc: Global, matches: &ArgMatches<'a>) -> Result<(), JobFau
     ensures err { OnErr result (fits_known (subcommand_rows_of matches.now) ≡ false) }
     ensures fault { IfErr result IsRefused }
 {
-    if runs_by_book(matches) {
+    if has_rules(matches) {
         let name = value_of(matches, "protocol").unwrap_or("ghs");
         return Err(no_such_run(alloc, name, "--book <book>"));
     }
