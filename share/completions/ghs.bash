@@ -15,9 +15,11 @@ _ghs() {
         run,--wake) COMPREPLY=($(compgen -W 'all first' -- "$word")) && return ;;
         run,--turns) : && return ;;
         run,--print) COMPREPLY=($(compgen -W 'report trace time' -- "$word")) && return ;;
-        replay,--protocol) COMPREPLY=($(compgen -W 'ghs boruvka echo' -- "$word")) && return ;;
+        replay,--protocol) COMPREPLY=($(compgen -W 'ghs boruvka echo own' -- "$word")) && return ;;
+        replay,--book) : && return ;;
         replay,--wake) COMPREPLY=($(compgen -W 'all first' -- "$word")) && return ;;
-        steps,--protocol) COMPREPLY=($(compgen -W 'ghs boruvka echo' -- "$word")) && return ;;
+        steps,--protocol) COMPREPLY=($(compgen -W 'ghs boruvka echo own' -- "$word")) && return ;;
+        steps,--book) : && return ;;
         steps,--wake) COMPREPLY=($(compgen -W 'all first' -- "$word")) && return ;;
         steps,--from) : && return ;;
         steps,--to) : && return ;;
@@ -55,8 +57,8 @@ _ghs() {
     case ${COMP_WORDS[1]} in
         tree) [[ $word == -* ]] && COMPREPLY=($(compgen -W '--core -h --help' -- "$word")) ;;
         run) [[ $word == -* ]] && COMPREPLY=($(compgen -W '--protocol --book --seed --schedule --workers --wake --turns --print --core --progress --tally -h --help' -- "$word")) ;;
-        replay) [[ $word == -* ]] && COMPREPLY=($(compgen -W '--protocol --wake -h --help' -- "$word")) ;;
-        steps) [[ $word == -* ]] && COMPREPLY=($(compgen -W '--protocol --wake --from --to --node --json -h --help' -- "$word")) ;;
+        replay) [[ $word == -* ]] && COMPREPLY=($(compgen -W '--protocol --book --wake -h --help' -- "$word")) ;;
+        steps) [[ $word == -* ]] && COMPREPLY=($(compgen -W '--protocol --book --wake --from --to --node --json -h --help' -- "$word")) ;;
         judge) [[ $word == -* ]] && COMPREPLY=($(compgen -W '--book --wake -h --help' -- "$word")) ;;
         sweep) [[ $word == -* ]] && COMPREPLY=($(compgen -W '--protocol --seeds --schedule --workers --wake --turns --print --by --names --json --progress -h --help' -- "$word")) ;;
         view) [[ $word == -* ]] && COMPREPLY=($(compgen -W '--protocol --seed --seeds --schedule --wake --turns --trace --from --to -h --help' -- "$word")) ;;
