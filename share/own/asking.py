@@ -124,10 +124,10 @@ class Book:
         """The status of `ghs judge`, and what it prints. Without a trace all runs are judged, by `ghs explore`."""
         return self.fill(*(["explore", graph] if trace is None else ["judge", trace, graph]), "--wake", wake)
 
-    def run(self, graph, *options):
-        """The status of a run by the book, and what it prints."""
-        words = ("run", graph, "--protocol", "own", *options)
-        if "--turns" not in options:
+    def run(self, command, graph, *options):
+        """The status of one run by the book, of many or of all, and what it prints."""
+        words = (command, graph, "--protocol", "own", *options)
+        if "--turns" not in options and command != "explore":
             # (where nodes have stopped, others may defer messages for long: so questions come first of a run's beginning)
             short = self.fill(*words, "--turns", "10000")
             if short[0] == 0:

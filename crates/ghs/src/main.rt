@@ -9,31 +9,38 @@
 #![tactic(auto)]
 
 ghost use Rattle.ghs.specs.Status.{IsStatusOf, IsStatusOfJob, status_unread};
-ghost use Rattle.ghs_cli.specs.Fault.{status_of};
-ghost use Rattle.ghs_cli.specs.Judging.{book_status};
-ghost use Rattle.ghs_cli.specs.AgainByBook.{cause_status};
+ghost use Rattle.ghs_answers.specs.Fault.{status_of};
+ghost use Rattle.own_cli.specs.Judging.{book_status};
+ghost use Rattle.own_cli.specs.Again.{cause_status};
 ghost use Rattle.peer_texts.specs.declared.trace.TheConstants.{EVENT_LIMIT};
-ghost use Rattle.ghs_cli.specs.Serving.{IfStored, IsBoundedTask, IsUnread, Serves, is_write};
-ghost use Rattle.ghs_cli.specs.declared.fault.ServeFault.{ServeFault};
+ghost use Rattle.ghs_cli.specs.Serving.{IfStored, IsBoundedTask, IsUnread, Serves};
+ghost use Rattle.ghs_answers.specs.Causes.{is_write};
+ghost use Rattle.ghs_answers.specs.declared.fault.ServeFault.{ServeFault};
 ghost use Rattle.ghs_commands.specs.Job.{AreExploreLimits, AreSweepLimits, IsWithinLimits, kinds_of};
 ghost use Rattle.std.specs.IoError.{error_kind};
 ghost use Rattle.std.specs.Vec.Iter.{into_iter_items, into_iter_len};
 ghost use Rattle.std.specs.Prelude.{◌≡◌, ◌≤◌, ◌⊎◌, ◌↔◌, IfErr, IfOk, IfSome, IsErrOf, MatchResult, None, drop, false, length, map, string_bytes, true};
 
-use ghs_cli::again_by_book::{OwnCause, replay_by_book, steps_by_book, stored_by_book};
-use ghs_cli::by_book::{OwnEnd, run_by_book};
-use ghs_cli::fault::ServeFault;
-use ghs_cli::judging::{BookCause, judge_all, judge_run, read_book_of};
+use ghs_answers::fault::ServeFault;
 use ghs_cli::networks::{Network, read_network, sweep_networks};
 use ghs_cli::reading::{events_of, graph_of};
 use ghs_cli::serve::serve;
 use ghs_commands::exploring::ExploreOptions;
-use ghs_commands::job::{Job, JobFault, RunOptions, StepsOptions, SweepOptions, Task, read_job};
+use ghs_commands::job::{
+    Job, JobFault, RunOptions, StepsOptions, StoredViewOptions, SweepOptions, Task, ViewOptions,
+    read_job,
+};
 use ghs_commands::values::is_dash;
 use ghs_gr::device::{Device, Source};
 use ghs_graph::graph::Graph;
 use ghs_report::write_out::write_out;
 use own_book::book::Book;
+use own_cli::again::{OwnCause, replay_by_book, steps_by_book, stored_by_book};
+use own_cli::explore::explore_by_book;
+use own_cli::judging::{BookCause, judge_all, judge_run, read_book_of};
+use own_cli::run::{OwnEnd, run_by_book};
+use own_cli::sweep::sweep_by_book;
+use own_cli::view::{stored_view_by_book, view_by_book};
 use own_judge::end::End;
 use own_rules::rulebook::Rulebook;
 use peer_network::event::Event;
@@ -121,6 +128,22 @@ fn fulfil<R: Runtime + AllocGlobal + Threads + Wait + Sync>(rt: &R, alloc: Globa
     ensures { IsStatusOfJob result }
 {
     match &job.task {
+        Task::Sweep {
+            protocols: _,
+            options,
+        } if job.own => sweep_own(rt, alloc, options, job),
+        Task::View {
+            protocol: _,
+            options,
+        } if job.own => view_own(rt, alloc, options, job),
+        Task::StoredView {
+            protocol: _,
+            options,
+        } if job.own => stored_view_own(rt, alloc, options, job),
+        Task::Explore {
+            protocol: _,
+            options,
+        } if job.own => explore_own(rt, alloc, options, job),
         Task::Sweep { protocols, options } if !job.networks.is_empty() => {
             sweep(rt, alloc, protocols, options, &job.networks)
         }
@@ -269,6 +292,146 @@ fn told_own<R: Runtime + AllocGlobal>(
     let graph = built_of(rt, alloc, options.wake, job.graph.as_ref())?;
     let mut out = Device::of(io::writer(rt));
     steps_by_book(alloc, options, graph, rules, events, &mut out)
+}
+
+/// Reads the book and the graph, writes the figures of the runs that seeds pick by the book, and gives the exit status.
+fn sweep_own<R: Runtime + AllocGlobal>(
+    rt: &R,
+    alloc: Global,
+    options: &SweepOptions,
+    job: &Job,
+) -> u8
+    requires { AreSweepLimits options.now }
+    ensures { IsStatusOfJob result }
+{
+    match own_rules_of(rt, alloc, job) {
+        Ok(rules) => match swept_own(rt, alloc, options, job, &rules) {
+            Ok(end) => end.status(),
+            Err(cause) => tell(rt, &cause),
+        },
+        Err(status) => status,
+    }
+}
+
+/// Reads the graph, and writes the figures of its runs by the book.
+fn swept_own<R: Runtime + AllocGlobal>(
+    rt: &R,
+    alloc: Global,
+    options: &SweepOptions,
+    job: &Job,
+    rules: &Rulebook,
+) -> Result<OwnEnd, ServeFault>
+    requires { AreSweepLimits options.now }
+{
+    let graph = built_of(rt, alloc, options.wake, job.graph.as_ref())?;
+    let mut out = Device::of(io::writer(rt));
+    sweep_by_book(alloc, options, &graph, rules, &mut out)
+}
+
+/// Reads the book and the graph, writes the page of the run that a seed picks by the book, or of those of two, and gives the
+/// exit status.
+fn view_own<R: Runtime + AllocGlobal>(rt: &R, alloc: Global, options: &ViewOptions, job: &Job) -> u8
+    ensures { IsStatusOfJob result }
+{
+    match own_rules_of(rt, alloc, job) {
+        Ok(rules) => match viewed_own(rt, alloc, options, job, &rules) {
+            Ok(end) => end.status(),
+            Err(cause) => tell(rt, &cause),
+        },
+        Err(status) => status,
+    }
+}
+
+/// Reads the graph, and writes the page of its runs by the book.
+fn viewed_own<R: Runtime + AllocGlobal>(
+    rt: &R,
+    alloc: Global,
+    options: &ViewOptions,
+    job: &Job,
+    rules: &Rulebook,
+) -> Result<OwnEnd, ServeFault> {
+    let graph = built_of(rt, alloc, options.wake, job.graph.as_ref())?;
+    let mut out = Device::of(io::writer(rt));
+    view_by_book(alloc, options, graph, rules, &mut out)
+}
+
+/// Reads the book, the trace and the graph, writes the page of the run by the book, and gives the exit status.
+fn stored_view_own<R: Runtime + AllocGlobal>(
+    rt: &R,
+    alloc: Global,
+    options: &StoredViewOptions,
+    job: &Job,
+) -> u8
+    ensures { IsStatusOfJob result }
+{
+    match own_run_of(rt, alloc, job) {
+        Ok((rules, events)) => finish(
+            rt,
+            stored_view_of_own(rt, alloc, options, job, &rules, &events),
+        ),
+        Err(status) => status,
+    }
+}
+
+/// Reads the graph, and writes the page of these events of it by the book.
+fn stored_view_of_own<R: Runtime + AllocGlobal>(
+    rt: &R,
+    alloc: Global,
+    options: &StoredViewOptions,
+    job: &Job,
+    rules: &Rulebook,
+    events: &[Event],
+) -> Result<(), ServeFault> {
+    let graph = built_of(rt, alloc, options.wake, job.graph.as_ref())?;
+    let mut out = Device::of(io::writer(rt));
+    stored_view_by_book(alloc, options, graph, rules, events, &mut out)
+}
+
+/// Reads the book and the graph, explores all runs of this by that, and gives the exit status.
+fn explore_own<R: Runtime + AllocGlobal>(
+    rt: &R,
+    alloc: Global,
+    options: &ExploreOptions,
+    job: &Job,
+) -> u8
+    requires { AreExploreLimits options.now }
+    ensures { IsStatusOfJob result }
+{
+    match book_of(rt, alloc, job.book.as_ref()) {
+        Ok(book) => match explored_own(rt, alloc, options, job, book) {
+            Ok(end) => end.status(),
+            Err(cause) => tell(rt, &cause),
+        },
+        Err(cause) => tell_cause(rt, &cause),
+    }
+}
+
+/// Reads the graph, and explores all its runs by the book.
+fn explored_own<R: Runtime + AllocGlobal>(
+    rt: &R,
+    alloc: Global,
+    options: &ExploreOptions,
+    job: &Job,
+    book: Book,
+) -> Result<OwnEnd, ServeFault>
+    requires { AreExploreLimits options.now }
+{
+    let graph = built_of(rt, alloc, options.wake, job.graph.as_ref())?;
+    let mut out = Device::of(io::writer(rt));
+    explore_by_book(alloc, options, &graph, book, &mut out)
+}
+
+/// The book, ready to run. Where there is none, says why, and gives the exit status.
+fn own_rules_of<R: Runtime + AllocGlobal>(rt: &R, alloc: Global, job: &Job) -> Result<Rulebook, u8>
+    ensures { IfErr result IsStatusOfJob }
+{
+    match book_of(rt, alloc, job.book.as_ref()) {
+        Ok(book) => match Rulebook::of(alloc, book) {
+            Ok(rules) => Ok(rules),
+            Err(_) => Err(tell(rt, &ServeFault::Memory)),
+        },
+        Err(cause) => Err(tell_cause(rt, &cause)),
+    }
 }
 
 /// The book, ready to run, and the events of the stored run by it. Where there are none, says why, and gives the exit status.

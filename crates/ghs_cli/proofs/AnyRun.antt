@@ -10,8 +10,8 @@ use Rattle.peer_network.specs.Wakes.{may_wake}
 use Rattle.peer_machine.specs.Net.{Net}
 use Rattle.peer_machine.specs.Rules.{Rules}
 use Rattle.peer_machine.specs.Run.{IsRunUnder, net_after}
-use Rattle.ghs_cli.specs.declared.fault.ServeFault.{ServeFault}
-use Rattle.ghs_cli.specs.declared.fault.ServeFault.TheVariants as serve
+use Rattle.ghs_answers.specs.declared.fault.ServeFault.{ServeFault}
+use Rattle.ghs_answers.specs.declared.fault.ServeFault.TheVariants as serve
 use Rattle.ghs_cli.specs.AnyRun.{GoesOn, IsReplayed, IsRunCause, IsText}
 
 module _ {S M : Type 0} (r : Rules S M) (has_ended : Shape → Net S M → Type 0) where

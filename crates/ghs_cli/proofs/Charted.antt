@@ -15,8 +15,9 @@ use Rattle.ghs_cli.specs.declared.networks.Network.{Network}
 use Rattle.ghs_cli.specs.Charts.{ArePanelsBy, ArePanelsByEach, IsPanel, IsPanelOf, NextPanel}
 use Rattle.ghs_cli.specs.Fronts.{are_several, panel_name}
 use Rattle.ghs_cli.specs.Networks.{ArePanels, NextPanels}
-use Rattle.ghs_cli.specs.Swept.{AreRunsBy, setup_of}
-use Rattle.ghs_cli.specs.Sweeping.{count_of}
+use Rattle.ghs_answers.specs.Sheets.{setup_of}
+use Rattle.ghs_cli.specs.Swept.{AreRunsBy}
+use Rattle.ghs_answers.specs.Sheets.{count_of}
 
 -- where the panels of a network by the first protocols stand behind a text, and then that of the next, those of one more do
 pub one_panel_more : (ps : List Protocol) (several : Bool) (o : SweepOptions) (first : ℕ) (name own : List ℕ) (g : Shape) (i place : ℕ) (p : Protocol)

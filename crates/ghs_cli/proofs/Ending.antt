@@ -16,8 +16,8 @@ use Rattle.peer_trace.specs.declared.protocol.Protocol.TheVariants.{Boruvka, Ech
 use Rattle.ghs_protocol.specs.Marks.{HasEnded}
 use Rattle.ghs_protocol.specs.Run.{net_after}
 use Rattle.peer_network.specs.declared.wake_set.WakeSet.{WakeSet}
-use Rattle.ghs_cli.specs.declared.fault.ServeFault.{ServeFault}
-use Rattle.ghs_cli.specs.declared.fault.ServeFault.TheVariants as serve
+use Rattle.ghs_answers.specs.declared.fault.ServeFault.{ServeFault}
+use Rattle.ghs_answers.specs.declared.fault.ServeFault.TheVariants as serve
 use Rattle.ghs_commands.specs.declared.job.RunOptions.{RunOptions}
 use Rattle.ghs_commands.specs.declared.job.Task.{Task}
 use Rattle.ghs_commands.specs.declared.job.Task.TheVariants as task

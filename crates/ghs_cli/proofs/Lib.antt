@@ -1,8 +1,6 @@
 -- Serves the proofs: nothing here has to be believed.
-mod AgainByBook
 mod AnyExplorations
 mod AnyRun
-mod ByBook
 mod Charted
 mod Ending
 mod Explorations

@@ -13,9 +13,9 @@ use Rattle.ghs_make.specs.declared.plan.Asked.{Asked}
 use Rattle.ghs_report.specs.declared.portions.WriteFault.{WriteFault}
 use Rattle.ghs_report.specs.declared.portions.WriteFault.TheVariants as write
 use Rattle.ghs_commands.specs.declared.job.Task.TheVariants as task
-use Rattle.ghs_cli.specs.Fault.{of_make, of_unwritten}
+use Rattle.ghs_answers.specs.Fault.{of_make, of_unwritten}
 use Rattle.ghs_cli.specs.Serving.{IsMade, Serves}
-use Rattle.ghs_cli.specs.declared.fault.ServeFault.{ServeFault}
+use Rattle.ghs_answers.specs.declared.fault.ServeFault.{ServeFault}
 
 -- the text of the network is what is asked for
 made_of : (asked : Asked) (n : Network) → IsNetwork n → IsNetworkOf asked n → IsMade asked (text_of n)

@@ -7,8 +7,8 @@ use Rattle.ghs_commands.specs.declared.job.SweepOptions.{SweepOptions}
 use Rattle.peer_trace.specs.declared.protocol.Protocol.{Protocol}
 use Rattle.peer_sweep.specs.Front.{front_of}
 use Rattle.ghs_report.specs.Writing.{HasWritten}
-use Rattle.ghs_cli.specs.declared.fault.ServeFault.{ServeFault}
-use Rattle.ghs_cli.specs.declared.fault.ServeFault.TheVariants as serve
+use Rattle.ghs_answers.specs.declared.fault.ServeFault.{ServeFault}
+use Rattle.ghs_answers.specs.declared.fault.ServeFault.TheVariants as serve
 use Rattle.ghs_cli.specs.declared.networks.Network.{Network}
 use Rattle.ghs_cli.specs.Networks.{AreLinesOf, AreLinesOfAll, HasSwept, IsNetworksText, IsSweepOf, NextNetwork, front_head}
 use Rattle.ghs_cli.specs.Sweeping.{AreLinesBy, heads_of}

@@ -8,8 +8,8 @@ use Rattle.peer_network.specs.Network.{network_of}
 use Rattle.peer_network.specs.Wakes.{may_wake}
 use Rattle.peer_network.specs.declared.event.Event.{Event}
 use Rattle.peer_network.specs.declared.wake_set.WakeSet.{WakeSet}
-use Rattle.ghs_cli.specs.declared.fault.ServeFault.{ServeFault}
-use Rattle.ghs_cli.specs.declared.fault.ServeFault.TheVariants as serve
+use Rattle.ghs_answers.specs.declared.fault.ServeFault.{ServeFault}
+use Rattle.ghs_answers.specs.declared.fault.ServeFault.TheVariants as serve
 use Rattle.ghs_cli.specs.Running.{GoesOn, IsReplayed, IsRunCause}
 
 -- a world that stands at the end of events has their text

@@ -16,8 +16,8 @@ use Rattle.ghs_sched.specs.declared.run.RunEnd.TheVariants.{Halted}
 use Rattle.peer_network.specs.declared.wake_set.WakeSet.{WakeSet}
 use Rattle.peer_network.specs.Wakes.{may_wake}
 use Rattle.ghs_world.specs.WorldState.{WorldState, home, wakers}
-use Rattle.ghs_cli.specs.declared.fault.ServeFault.{ServeFault}
-use Rattle.ghs_cli.specs.declared.fault.ServeFault.TheVariants as serve
+use Rattle.ghs_answers.specs.declared.fault.ServeFault.{ServeFault}
+use Rattle.ghs_answers.specs.declared.fault.ServeFault.TheVariants as serve
 use Rattle.ghs_commands.specs.declared.job.RunOptions.{RunOptions}
 use Rattle.ghs_cli.specs.Running.{AreItsRounds, IsOpened, IsRunBy, IsStopped, IsWholeRun, Stops, StopsRun}
 

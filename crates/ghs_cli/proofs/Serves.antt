@@ -9,20 +9,12 @@ use Rattle.ghs_report.specs.Writing.{HasWritten}
 use Rattle.peer_network.specs.declared.event.Event.{Event}
 use Rattle.peer_network.specs.declared.wake_set.WakeSet.{WakeSet}
 use Rattle.peer_trace.specs.declared.protocol.Protocol.{Protocol}
-use Rattle.ghs_cli.specs.declared.fault.ServeFault.{ServeFault}
-use Rattle.ghs_cli.specs.declared.fault.ServeFault.TheVariants as serve
+use Rattle.ghs_answers.specs.declared.fault.ServeFault.{ServeFault}
+use Rattle.ghs_answers.specs.declared.fault.ServeFault.TheVariants as serve
 use Rattle.ghs_commands.specs.declared.job.Task.{Task}
 use Rattle.ghs_cli.specs.Printing.{HasGoneOut, HasPrinted}
-use Rattle.ghs_cli.specs.Serving.{IfStored, IsBothCause, IsOfBoth, IsTextOf, IsTraceText, IsUnread, IsUnwritten, Serves, is_late, is_limit, is_memory, is_write, meaning_of, shape_of}
-
--- what follows for each text follows where one is known
-pub if_some : (o : Option (List ℕ)) (P Q : List ℕ → Type 0) → ((bytes : List ℕ) → P bytes → Q bytes) → IfSome o P → IfSome o Q
-if_some None P Q f all = tt
-if_some (Some bytes) P Q f all = f bytes all
-
-pub for_some : (o : Option (List ℕ)) (P : List ℕ → Type 0) → ((bytes : List ℕ) → P bytes) → IfSome o P
-for_some None P all = tt
-for_some (Some bytes) P all = all bytes
+use Rattle.ghs_cli.specs.Serving.{IfStored, IsBothCause, IsOfBoth, IsTextOf, IsTraceText, IsUnread, IsUnwritten, Serves, is_late, is_limit, meaning_of, shape_of}
+use Rattle.ghs_answers.specs.Causes.{is_memory, is_write}
 
 -- lack of memory is late where the task prints by portions
 memory_late : (portions : Bool) → portions ≡ true → (portions || false) ≡ true

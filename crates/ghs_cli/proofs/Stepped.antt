@@ -2,46 +2,29 @@
 use Rattle.std.proofs.Common.{◌≡◌, ℕ, Bool, false, true, List, Option, inl, inr, length, refl, subst, sym, arith, ◌&&◌, ◌||◌}
 use Rattle.std.specs.Prelude.{IfErr, IfSome, Result, Ok, Err}
 use Rattle.std.specs.Io.KnownBytes.{Appends}
-use Rattle.std.proofs.lemmas.List.{take_all}
 use Rattle.ghs_graph.specs.Graph.{Shape}
 use Rattle.ghs_steps.specs.Shown as ghs
 use Rattle.ghs_sched.specs.Replays as ghs_replays
 use Rattle.ghs_protocol.specs.Run as ghs_run
 use Rattle.ghs_steps.specs.Lines as ghs_lines
-use Rattle.peer_machine.specs.Rules.{Rules}
-use Rattle.peer_machine.specs.Run.{IsRunUnder}
 use Rattle.peer_network.specs.Network.{network_of}
 use Rattle.peer_network.specs.Wakes.{may_wake}
 use Rattle.peer_network.specs.declared.event.Event.{Event}
-use Rattle.peer_runs.specs.Replays.{IsFirstUnlawful}
-use Rattle.peer_steps.specs.Lines.{lines}
-use Rattle.peer_steps.specs.Shown.{CantShow}
 use Rattle.peer_steps.specs.declared.fault.StepsFault.{StepsFault}
 use Rattle.peer_steps.specs.declared.fault.StepsFault.TheVariants as steps
 use Rattle.peer_trace.specs.declared.protocol.Protocol.{Protocol}
-use Rattle.peer_words.specs.Words.{Words}
-use Rattle.ghs_cli.specs.AnyRun as any_run
-use Rattle.ghs_cli.specs.Fault.{of_steps}
+use Rattle.ghs_answers.specs.Fault.{of_steps}
 use Rattle.ghs_cli.specs.Running.{AreSteps}
-use Rattle.ghs_cli.specs.Serving.{IsTextOf, IsTraceText, Serves, is_late, is_limit, is_memory, is_write, meaning_of}
-use Rattle.ghs_cli.specs.Stepping.{CantTell, HasTold}
+use Rattle.ghs_cli.specs.Serving.{IsTextOf, IsTraceText, Serves, is_late, is_limit, meaning_of}
+use Rattle.ghs_answers.specs.Causes.{is_memory, is_write}
+use Rattle.ghs_answers.specs.Stepping.{CantTell, HasTold}
 use Rattle.ghs_cli.specs.Verbs.{verbs_of}
-use Rattle.ghs_cli.specs.declared.fault.ServeFault.{ServeFault}
-use Rattle.ghs_cli.specs.declared.fault.ServeFault.TheVariants as serve
+use Rattle.ghs_answers.specs.declared.fault.ServeFault.{ServeFault}
+use Rattle.ghs_answers.specs.declared.fault.ServeFault.TheVariants as serve
+use Rattle.ghs_answers.proofs.lemmas.Told.{all_told}
 use Rattle.ghs_cli.proofs.Serves.{fault_of, if_both, told_of}
 use Rattle.ghs_commands.specs.declared.job.StepsOptions.{StepsOptions}
 use Rattle.ghs_commands.specs.declared.job.Task.TheVariants as task
-
--- all lines have gone out
-all_told : (tells : List ℕ → Type 0) (is_unlawful : ℕ → Type 0) (output : List ℕ) (old new : Option (List ℕ)) →
-    tells output →
-    Appends old new output →
-    HasTold tells is_unlawful old new (Ok tt)
-all_told tells is_unlawful output old new told out = (
-  output,
-  told,
-  subst (λ (bytes : List ℕ). Appends old new bytes) (sym (take_all (length output) output (omega arith))) out,
-)
 
 -- of a run by GHS,
 pub ghs_told : (o : StepsOptions) (g : Shape) (events : List Event) (old new : Option (List ℕ)) →
@@ -53,45 +36,13 @@ ghs_told o g events old new run out =
     (record { run = run; printed = refl }) out
 
 -- or not all of them
-ghs_cant_tell : (o : StepsOptions) (g : Shape) (events : List Event) (old new : Option (List ℕ)) (fault : StepsFault) →
+pub ghs_cant_tell : (o : StepsOptions) (g : Shape) (events : List Event) (old new : Option (List ℕ)) (fault : StepsFault) →
     ghs.CantShow g o.wake events (ghs_lines.lines o.form g events o.choice) old new fault →
     HasTold (AreSteps o g events) (ghs_replays.IsFirstUnlawful g o.wake events) old new (Err (of_steps fault))
 ghs_cant_tell o g events old new (steps.NotLawful k) has = has.0
 ghs_cant_tell o g events old new steps.Memory (inl none) = inl none
 ghs_cant_tell o g events old new steps.Memory (inr front) = inr (_, record { run = front.0; printed = refl }, front.1)
 ghs_cant_tell o g events old new (steps.Write k) has = (_, record { run = has.0; printed = refl }, has.1.0, has.1.1)
-
-pub ghs_untold : (o : StepsOptions) (g : Shape) (events : List Event) (old new : Option (List ℕ)) (r : Result (Unit {0}) ServeFault)
-    (fault : StepsFault) →
-    r ≡ Err (of_steps fault) →
-    ghs.CantShow g o.wake events (ghs_lines.lines o.form g events o.choice) old new fault →
-    HasTold (AreSteps o g events) (ghs_replays.IsFirstUnlawful g o.wake events) old new r
-ghs_untold o g events old new r fault is has = rw is (ghs_cant_tell o g events old new fault has)
-
--- the same of a run by any protocol
-module _ {S M : Type 0} (r : Rules S M) (words : Words S M) where
-  pub any_told : (o : StepsOptions) (g : Shape) (events : List Event) (old new : Option (List ℕ)) →
-      IsRunUnder r (may_wake g o.wake) (network_of g) events →
-      Appends old new (lines r words o.form g o.choice events) →
-      HasTold (any_run.AreSteps r words o g events) (IsFirstUnlawful r g o.wake events) old new (Ok tt)
-  any_told o g events old new run out =
-      all_told (any_run.AreSteps r words o g events) (IsFirstUnlawful r g o.wake events) (lines r words o.form g o.choice events) old new
-      (record { run = run; printed = refl }) out
-
-  any_cant_tell : (o : StepsOptions) (g : Shape) (events : List Event) (old new : Option (List ℕ)) (fault : StepsFault) →
-      CantShow r g o.wake events (lines r words o.form g o.choice events) old new fault →
-      HasTold (any_run.AreSteps r words o g events) (IsFirstUnlawful r g o.wake events) old new (Err (of_steps fault))
-  any_cant_tell o g events old new (steps.NotLawful k) has = has.0
-  any_cant_tell o g events old new steps.Memory (inl none) = inl none
-  any_cant_tell o g events old new steps.Memory (inr front) = inr (_, record { run = front.0; printed = refl }, front.1)
-  any_cant_tell o g events old new (steps.Write k) has = (_, record { run = has.0; printed = refl }, has.1.0, has.1.1)
-
-  pub any_untold : (o : StepsOptions) (g : Shape) (events : List Event) (old new : Option (List ℕ)) (result : Result (Unit {0}) ServeFault)
-      (fault : StepsFault) →
-      result ≡ Err (of_steps fault) →
-      CantShow r g o.wake events (lines r words o.form g o.choice events) old new fault →
-      HasTold (any_run.AreSteps r words o g events) (IsFirstUnlawful r g o.wake events) old new result
-  any_untold o g events old new result fault is has = rw is (any_cant_tell o g events old new fault has)
 
 -- what is told of events serves the steps of their texts
 module _ (p : Protocol) (o : StepsOptions) (stored input : List ℕ) (g : Shape) (events : List Event) (trace : IsTraceText p stored events)

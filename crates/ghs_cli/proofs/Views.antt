@@ -13,8 +13,8 @@ use Rattle.peer_words.specs.Looks.{Looks}
 use Rattle.peer_words.specs.Words.{Words}
 use Rattle.peer_report.specs.declared.run.RunEnd.{RunEnd}
 use Rattle.peer_report.specs.declared.run.RunEnd.TheVariants.{Ended, Stopped}
-use Rattle.ghs_cli.specs.declared.fault.ServeFault.{ServeFault}
-use Rattle.ghs_cli.specs.declared.fault.ServeFault.TheVariants as serve
+use Rattle.ghs_answers.specs.declared.fault.ServeFault.{ServeFault}
+use Rattle.ghs_answers.specs.declared.fault.ServeFault.TheVariants as serve
 use Rattle.ghs_commands.specs.declared.job.ViewOptions.{ViewOptions}
 use Rattle.ghs_cli.specs.AnyView.{HasNoView, IsShownBy}
 use Rattle.ghs_cli.specs.Viewing.{HasNoPairView}

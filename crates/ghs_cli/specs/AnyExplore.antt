@@ -13,8 +13,8 @@ use Rattle.peer_trace.specs.declared.protocol.Protocol.{Protocol}
 use Rattle.ghs_commands.specs.declared.exploring.ExploreOptions.{ExploreOptions}
 use Rattle.ghs_commands.specs.declared.exploring.Finding.{Finding}
 use Rattle.ghs_commands.specs.declared.exploring.Finding.TheVariants.{Ends, Run}
-use Rattle.ghs_cli.specs.declared.fault.ServeFault.{ServeFault}
-use Rattle.ghs_cli.specs.declared.fault.ServeFault.TheVariants as serve
+use Rattle.ghs_answers.specs.declared.fault.ServeFault.{ServeFault}
+use Rattle.ghs_answers.specs.declared.fault.ServeFault.TheVariants as serve
 
 -- the rules of a protocol
 module _ {S M : Type 0} (r : Rules S M) where
@@ -54,11 +54,12 @@ module _ {S M : Type 0} (r : Rules S M) where
     pub record AreEndsOf (o : ExploreOptions) (g : Shape) (output : List ℕ) : Type 0 where
       pub rows : List EndRow
       pub states : ℕ
+      pub runs : List (List Event)
       pub ends : AreEnds r g o.wake rows
       pub range : IsRange r g o.wake (least_sum rows) (greatest_sum rows)
       pub reached : HasStates r g o.wake states
       pub few : states ≤ o.limit
-      pub printed : IsExploredText r.kinds kind bound (record { graph = g; wake = o.wake; rows = rows; states = states }) output
+      pub printed : IsExploredText r.kinds kind bound (record { graph = g; wake = o.wake; rows = rows; ends = runs; states = states }) output
 
     -- what is found
     abbrev pub IsFound : Protocol → Finding → ExploreOptions → Shape → List ℕ → Type 0

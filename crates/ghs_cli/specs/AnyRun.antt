@@ -1,69 +1,30 @@
--- What running a network by any protocol comes to, and playing a stored run of it again, or telling it. Of the options of a run its
+-- What running a network by any protocol comes to, and playing a stored run of it again. Of the options of a run its
 -- schedule, seed, wake set, turns and what is shown are taken; the others go with GHS alone.
-use Rattle.std.specs.Prelude.{◌≡◌, ℕ, ◌+◌, ◌≤◌, ◌++◌, Bool, true, false, List, [], codes, decimal}
+use Rattle.std.specs.Prelude.{◌≡◌, ℕ, ◌+◌, ◌≤◌, Bool, true, false, List}
 use Rattle.ghs_choices.specs.declared.schedule_kind.ScheduleKind.{ScheduleKind}
-use Rattle.ghs_choices.specs.declared.schedule_kind.ScheduleKind.TheVariants.{Lifo, Patient, RoundRobin, Rounds, Seeded, Waits}
 use Rattle.ghs_graph.specs.declared.key.Key.{Key}
 use Rattle.ghs_graph.specs.Graph.{Shape}
-use Rattle.ghs_picking.specs.Time.{bits_line, chain_line}
-use Rattle.ghs_picking.specs.declared.lengths.RunLengths.{RunLengths}
 use Rattle.peer_network.specs.declared.event.Event.{Event}
 use Rattle.peer_network.specs.declared.wake_set.WakeSet.{WakeSet}
 use Rattle.peer_network.specs.Network.{network_of}
 use Rattle.peer_network.specs.Wakes.{may_wake}
-use Rattle.peer_lengths.specs.Chain.{longest_chain}
-use Rattle.peer_lengths.specs.Sends.{bits_sent, longest_sent}
 use Rattle.peer_machine.specs.Net.{Net}
 use Rattle.peer_machine.specs.Rules.{Rules}
 use Rattle.peer_machine.specs.Run.{IsRunUnder, net_after}
 use Rattle.peer_report.specs.ReportText.{IsReportText}
 use Rattle.peer_report.specs.Runs.{IsStopped, IsWholeRun}
 use Rattle.peer_runs.specs.Replays.{IsFirstUnlawful}
-use Rattle.peer_steps.specs.Lines.{lines}
 use Rattle.peer_trace.specs.Text.{stored_text}
 use Rattle.peer_trace.specs.declared.protocol.Protocol.{Protocol}
-use Rattle.peer_words.specs.Words.{Words}
 use Rattle.ghs_commands.specs.declared.job.RunOptions.{RunOptions}
 use Rattle.ghs_commands.specs.declared.job.Show.{Show}
 use Rattle.ghs_commands.specs.declared.job.Show.TheVariants.{Summary, Events, Time}
-use Rattle.ghs_commands.specs.declared.job.StepsOptions.{StepsOptions}
-use Rattle.ghs_cli.specs.declared.fault.ServeFault.{ServeFault}
-use Rattle.ghs_cli.specs.declared.fault.ServeFault.TheVariants as serve
-
--- a line of rounds without a bound
-unfoldable pub rounds_line : ℕ → List ℕ
-rounds_line rounds = codes "u " ++ decimal rounds ++ codes "\n"
-
--- `u ROUNDS`: by rounds a run that has ended has as many rounds as its longest chain has messages. By other schedules there is no line
-abbrev pub rounds_lines : ScheduleKind → ℕ → List ℕ
-rounds_lines Seeded rounds = []
-rounds_lines Patient rounds = []
-rounds_lines Rounds rounds = rounds_line rounds
-rounds_lines Waits rounds = []
-rounds_lines Lifo rounds = []
-rounds_lines RoundRobin rounds = []
+use Rattle.ghs_answers.specs.Timing.{timed_text}
+use Rattle.ghs_answers.specs.declared.fault.ServeFault.{ServeFault}
+use Rattle.ghs_answers.specs.declared.fault.ServeFault.TheVariants as serve
 
 -- the rules of a protocol
 module _ {S M : Type 0} (r : Rules S M) where
-  -- how long a run is: its longest chain, in messages; and in bits all that it sends together, and the longest message
-  abbrev pub lengths_of : Shape → List Event → RunLengths
-  lengths_of g events = record {
-    chain = longest_chain r (network_of g) events;
-    bits = bits_sent r g events;
-    longest = longest_sent r g events;
-  }
-
-  -- the text of the time of a run that has ended: its longest chain, by rounds these, and its bits
-  abbrev pub timed_text : ScheduleKind → Shape → List Event → List ℕ
-  timed_text kind g events =
-      let lengths = lengths_of g events in
-      chain_line lengths.chain ++ rounds_lines kind lengths.chain ++ bits_line lengths.bits lengths.longest
-
-  -- events that are a run of the graph, and the output is the lines of those that are chosen, in the protocol's words
-  pub record AreSteps (words : Words S M) (o : StepsOptions) (g : Shape) (events : List Event) (output : List ℕ) : Type 0 where
-    pub run : IsRunUnder r (may_wake g o.wake) (network_of g) events
-    pub printed : output ≡ lines r words o.form g o.choice events
-
   -- when a run has ended
   module _ (has_ended : Shape → Net S M → Type 0) where
     -- why a run of a graph doesn't end well: its turns are used, or memory runs out
@@ -104,7 +65,7 @@ module _ {S M : Type 0} (r : Rules S M) where
         abbrev pub IsShown : Show → ScheduleKind → Shape → List Event → List ℕ → Type 0
         IsShown Summary kind g events output = IsText g events output
         IsShown Events kind g events output = output ≡ stored_text p events
-        IsShown Time kind g events output = output ≡ timed_text kind g events
+        IsShown Time kind g events output = output ≡ timed_text r kind g events
 
         -- the seed's run of the graph ends, and the output shows it
         pub record IsRun (o : RunOptions) (g : Shape) (output : List ℕ) : Type 0 where

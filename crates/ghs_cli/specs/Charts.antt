@@ -12,8 +12,10 @@ use Rattle.ghs_commands.specs.declared.job.Sheet.{Sheet}
 use Rattle.ghs_commands.specs.declared.job.Sheet.TheVariants.{Chart, Runs, Summary}
 use Rattle.ghs_commands.specs.declared.job.SweepOptions.{SweepOptions}
 use Rattle.ghs_cli.specs.Fronts.{are_several, panel_name}
-use Rattle.ghs_cli.specs.Swept.{AreRunsBy, IsBoundBy, setup_of}
-use Rattle.ghs_cli.specs.Sweeping.{IsSwept, count_of}
+use Rattle.ghs_answers.specs.Sheets.{setup_of}
+use Rattle.ghs_cli.specs.Swept.{AreRunsBy, IsBoundBy}
+use Rattle.ghs_answers.specs.Sheets.{count_of}
+use Rattle.ghs_cli.specs.Sweeping.{IsSwept}
 
 -- what is said of a network and its runs
 pub record IsCaption (p : Protocol) (g : Shape) (runs : ℕ) (c : Caption) : Type 0 where

@@ -8,8 +8,8 @@ use Rattle.ghs_explore.specs.declared.row.EndRow.{EndRow}
 use Rattle.ghs_graph.specs.Graph.{Shape}
 use Rattle.peer_network.specs.declared.event.Event.{Event}
 use Rattle.peer_texts.specs.Text.{trace_text}
-use Rattle.ghs_cli.specs.declared.fault.ServeFault.{ServeFault}
-use Rattle.ghs_cli.specs.declared.fault.ServeFault.TheVariants as serve
+use Rattle.ghs_answers.specs.declared.fault.ServeFault.{ServeFault}
+use Rattle.ghs_answers.specs.declared.fault.ServeFault.TheVariants as serve
 use Rattle.ghs_commands.specs.declared.exploring.ExploreOptions.{ExploreOptions}
 use Rattle.ghs_commands.specs.declared.exploring.Finding.{Finding}
 use Rattle.ghs_commands.specs.declared.exploring.Finding.TheVariants.{Ends, Run}

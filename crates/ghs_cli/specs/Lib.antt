@@ -1,20 +1,15 @@
 -- To be believed: contracts cite what stands here, and what it is made of.
-pub mod AgainByBook
 pub mod AnyExplore
 pub mod AnyRun
 pub mod AnyView
-pub mod ByBook
 pub mod Charts
 pub mod Exploring
-pub mod Fault
 pub mod Fronts
-pub mod Judging
 pub mod Networks
 pub mod Parted
 pub mod Printing
 pub mod Running
 pub mod Serving
-pub mod Stepping
 pub mod Sweeping
 pub mod Swept
 pub mod Verbs

@@ -2,8 +2,8 @@
 use Rattle.std.specs.Global.{Vec}
 use Rattle.std.specs.Prelude.{◌≡◌, ℕ, ◌<◌, List, length, Option, Result, Err, OnOk, IfErr, IfOk}
 use Rattle.ghs_report.specs.Writing.{HasWritten}
-use Rattle.ghs_cli.specs.declared.fault.ServeFault.{ServeFault}
-use Rattle.ghs_cli.specs.declared.fault.ServeFault.TheVariants as serve
+use Rattle.ghs_answers.specs.declared.fault.ServeFault.{ServeFault}
+use Rattle.ghs_answers.specs.declared.fault.ServeFault.TheVariants as serve
 
 -- only the first bytes of an output have gone out, as many as the fault says
 pub record IsCutShort (output : List ℕ) (old new : Option (List ℕ)) (fault : ServeFault) : Type 0 where

@@ -26,8 +26,8 @@ use Rattle.peer_network.specs.Wakes.{may_wake}
 use Rattle.peer_network.specs.declared.event.Event.{Event}
 use Rattle.peer_network.specs.declared.wake_set.WakeSet.{WakeSet}
 use Rattle.peer_texts.specs.Text.{trace_text}
-use Rattle.ghs_cli.specs.declared.fault.ServeFault.{ServeFault}
-use Rattle.ghs_cli.specs.declared.fault.ServeFault.TheVariants as serve
+use Rattle.ghs_answers.specs.declared.fault.ServeFault.{ServeFault}
+use Rattle.ghs_answers.specs.declared.fault.ServeFault.TheVariants as serve
 
 -- behind a text the lines of all components with their cores, where they are asked for
 abbrev pub HaveCores : Bool → Shape → (Component → Type 0) → List ℕ → List ℕ → Type 0

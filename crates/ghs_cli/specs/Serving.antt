@@ -29,11 +29,12 @@ use Rattle.ghs_commands.specs.declared.job.Show.{Show}
 use Rattle.ghs_commands.specs.declared.job.Show.TheVariants.{Summary, Events, Time}
 use Rattle.ghs_commands.specs.declared.job.Task.{Task}
 use Rattle.ghs_commands.specs.declared.job.Task.TheVariants as task
-use Rattle.ghs_cli.specs.declared.fault.ServeFault.{ServeFault}
-use Rattle.ghs_cli.specs.declared.fault.ServeFault.TheVariants as serve
+use Rattle.ghs_answers.specs.declared.fault.ServeFault.{ServeFault}
+use Rattle.ghs_answers.specs.declared.fault.ServeFault.TheVariants as serve
+use Rattle.ghs_answers.specs.Causes.{IsStoredCause, is_memory, is_write}
 use Rattle.ghs_cli.specs.Charts.{IsSweepText}
 use Rattle.ghs_cli.specs.Running.{HaveCores}
-use Rattle.ghs_cli.specs.Stepping.{CantTell}
+use Rattle.ghs_answers.specs.Stepping.{CantTell}
 use Rattle.ghs_cli.specs.Verbs.{verbs_of}
 
 -- the keys of a graph's links
@@ -56,18 +57,6 @@ IsTextOf wake input g = (graph : RawShape) × IsRead wake input graph × (g ≡ 
 -- what is stored is the text of these events, of a run of the protocol
 abbrev pub IsTraceText : Protocol → List ℕ → List Event → Type 0
 IsTraceText p stored events = (IsTooLong stored → ⊥) × HasEventsOf p stored events
-
--- what is stored gives this fault, by the faults that it has as a text of a trace; it may be too long, and the reader and memory may fail for any
-abbrev pub IsStoredCause : (StoredFault → Type 0) → List ℕ → ServeFault → Type 0
-IsStoredCause Has stored (serve.TraceBadLine line) = (IsTooLong stored → ⊥) × Has (Trace (trace.BadLine line))
-IsStoredCause Has stored (serve.TraceNumber line) = (IsTooLong stored → ⊥) × Has (Trace (trace.Number line))
-IsStoredCause Has stored (serve.TraceCount said found) = (IsTooLong stored → ⊥) × Has (Trace (trace.Count said found))
-IsStoredCause Has stored (serve.TraceOf other) = (IsTooLong stored → ⊥) × Has (Other other)
-IsStoredCause Has stored serve.TraceOfOwn = (IsTooLong stored → ⊥) × Has Own
-IsStoredCause Has stored serve.TooLong = IsTooLong stored
-IsStoredCause Has stored serve.Memory = Unit {0}
-IsStoredCause Has stored serve.Read = Unit {0}
-IsStoredCause Has stored _ = ⊥
 
 -- to who asks for a run of this protocol
 abbrev pub IsTraceCause : Protocol → List ℕ → ServeFault → Type 0
@@ -237,22 +226,9 @@ IfRead false stored P = (bytes : List ℕ) → P bytes
 abbrev pub IfStored : Task → Option (List ℕ) → (List ℕ → Type 0) → Type 0
 IfStored job = IfRead (meaning_of job).reads_trace
 
-abbrev pub is_write : ServeFault → Bool
-is_write (serve.Write written) = true
-is_write _ = false
-
--- the writer failed, or took no byte
-abbrev pub IsWrite : Result (Unit {0}) ServeFault → Type 0
-IsWrite (Ok u) = ⊥
-IsWrite (Err fault) = is_write fault ≡ true
-
 abbrev pub is_limit : ServeFault → Bool
 is_limit serve.TurnLimit = true
 is_limit _ = false
-
-abbrev pub is_memory : ServeFault → Bool
-is_memory serve.Memory = true
-is_memory _ = false
 
 -- a fault that may come behind output
 abbrev pub is_late : Task → ServeFault → Bool

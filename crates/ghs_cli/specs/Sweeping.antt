@@ -1,44 +1,21 @@
 -- Sweeps of a graph.
-use Rattle.std.specs.Prelude.{◌≡◌, ℕ, ◌+◌, ◌-◌, Bool, List, [], ◌∷◌, ◌++◌, length, Option, Some, None}
+use Rattle.std.specs.Prelude.{◌≡◌, ℕ, ◌+◌, Bool, List, [], ◌∷◌, ◌++◌, length, Option, Some, None}
 use Rattle.ghs_graph.specs.Graph.{Shape}
 use Rattle.ghs_choices.specs.declared.by.By.{By}
 use Rattle.peer_parts.specs.Line.{head_line}
 use Rattle.ghs_choices.specs.declared.form.Form.{Form}
 use Rattle.ghs_choices.specs.declared.form.Form.TheVariants.{Text, Json}
 use Rattle.peer_sweep.specs.declared.figures.Figures.{Figures}
-use Rattle.peer_sweep.specs.declared.setup.Setup.{Setup}
-use Rattle.peer_sweep.specs.declared.summary.TheConstants.{SUMMARY_HEAD}
 use Rattle.peer_sweep.specs.Columns.{Layout}
 use Rattle.peer_sweep.specs.Front.{bare_front}
-use Rattle.peer_sweep.specs.Line.{head_line as names_line}
-use Rattle.peer_sweep.specs.Lines.{line_behind, run_lines}
-use Rattle.peer_sweep.specs.Summary.{AreSummaryLines}
 use Rattle.peer_trace.specs.declared.protocol.Protocol.{Protocol}
 use Rattle.peer_trace.specs.declared.protocol.Protocol.TheVariants as protocol
 use Rattle.ghs_commands.specs.declared.job.Sheet.{Sheet}
-use Rattle.ghs_commands.specs.declared.job.Sheet.TheVariants.{Chart, Runs, Summary}
 use Rattle.ghs_commands.specs.declared.job.SweepOptions.{SweepOptions}
+use Rattle.ghs_answers.specs.Sheets.{AreSheetLines, count_of, head_of, setup_of}
 use Rattle.ghs_cli.specs.Fronts.{front_by, protocol_head, says_protocol}
-use Rattle.ghs_cli.specs.Swept.{AreRunsBy, IsPartedBy, layout_by, part_columns, setup_of}
+use Rattle.ghs_cli.specs.Swept.{AreRunsBy, IsPartedBy, layout_by, part_columns}
 use Rattle.ghs_cli.specs.declared.parting.Parting.{Parting}
-
--- how many runs it has: one for each seed
-abbrev pub count_of : SweepOptions → ℕ
-count_of o = o.seeds.last - o.seeds.first + 1
-
--- the names of the columns; lines of JSON say them with each value
-abbrev pub head_of : Layout → Form → Sheet → List ℕ
-head_of l Text Runs = names_line l
-head_of l Text Summary = SUMMARY_HEAD.now
-head_of l Text Chart = []
-head_of l Json sheet = []
-
--- what is printed of runs whose seeds rise from the first on: a line for each of them, or their summary, each line behind a front; a
--- chart has no lines
-abbrev pub AreSheetLines : Sheet → Form → List ℕ → Layout → Setup → ℕ → List Figures → List ℕ → Type 0
-AreSheetLines Runs form front l setup first runs lines = lines ≡ run_lines (line_behind form front l setup) first runs
-AreSheetLines Summary form front l setup first runs lines = AreSummaryLines form front runs l.columns lines
-AreSheetLines Chart form front l setup first runs lines = lines ≡ []
 
 -- the lines of the sweep of a graph by a protocol, printed of the runs of just its seeds, each behind a front
 pub record AreSweptLines (p : Protocol) (o : SweepOptions) (front : List ℕ) (g : Shape) (lines : List ℕ) : Type 0 where

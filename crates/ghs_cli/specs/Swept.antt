@@ -13,6 +13,7 @@ use Rattle.boruvka_protocol.specs.Bound.{bound_of}
 use Rattle.echo.specs.Echo as wave
 use Rattle.echo.specs.Ended as wave_end
 use Rattle.echo.specs.Words as wave_words
+use Rattle.ghs_answers.specs.Sheets.{setup_of}
 use Rattle.ghs_cli.specs.Parted.{IsPartedByGhs}
 use Rattle.ghs_sweep.specs.Measure.{about_ghs}
 use Rattle.ghs_sweep.specs.Sweep as ghs
@@ -68,10 +69,6 @@ abbrev pub IsBoundBy : Protocol → Shape → ℕ → Type 0
 IsBoundBy protocol.Ghs g n = IsBound g.nodes (length g.keys) n
 IsBoundBy protocol.Boruvka g n = n ≡ bound_of g
 IsBoundBy protocol.Echo g n = n ≡ wave.bound_of g
-
--- what the runs of a sweep have in common
-abbrev pub setup_of : SweepOptions → Setup
-setup_of o = record { schedule_kind = o.schedule_kind; wake = o.wake; turns = o.turns }
 
 -- the names of the kinds of messages that have columns by parts: the protocol's own, or where there are several protocols those of all
 abbrev pub part_names : Bool → Protocol → List (List ℕ)

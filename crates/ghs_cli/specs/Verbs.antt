@@ -27,9 +27,11 @@ use Rattle.ghs_commands.specs.declared.job.StoredViewOptions.{StoredViewOptions}
 use Rattle.ghs_commands.specs.declared.job.ViewOptions.{ViewOptions}
 use Rattle.ghs_sched.specs.Replays as ghs
 use Rattle.peer_runs.specs.Replays.{IsFirstUnlawful}
-use Rattle.ghs_cli.specs.declared.fault.ServeFault.{ServeFault}
-use Rattle.ghs_cli.specs.declared.fault.ServeFault.TheVariants as serve
+use Rattle.ghs_answers.specs.declared.fault.ServeFault.{ServeFault}
+use Rattle.ghs_answers.specs.declared.fault.ServeFault.TheVariants as serve
 use Rattle.ghs_cli.specs.AnyExplore as any_explore
+use Rattle.ghs_answers.specs.Stepping.{AreSteps}
+use Rattle.ghs_answers.specs.StoredView.{HasNoStoredView, IsStoredView}
 use Rattle.ghs_cli.specs.AnyRun as any_run
 use Rattle.ghs_cli.specs.AnyView as any_view
 use Rattle.ghs_cli.specs.Exploring as exploring
@@ -87,11 +89,11 @@ module _ {S M : Type 0} (r : Rules S M) (has_ended : Shape → Net S M → Type 
     replays = any_run.IsReplayed r has_ended words.kind bound is_branch found;
     cant_replay = any_run.IsRunCause r has_ended;
     is_unlawful = λ wake g. IsFirstUnlawful r g wake;
-    tells = any_run.AreSteps r words;
+    tells = AreSteps r words;
     views = any_view.IsView r is_page has_ended is_pair_page;
     cant_view = any_view.HasNoView r has_ended;
-    views_stored = any_view.IsStoredView r is_page;
-    cant_view_stored = any_view.HasNoStoredView r;
+    views_stored = IsStoredView r is_page;
+    cant_view_stored = HasNoStoredView r;
     explores = λ o. any_explore.IsFound r words.kind bound p o.finding o;
     cant_explore = any_explore.FindsNothing r;
   }

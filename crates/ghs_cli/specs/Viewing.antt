@@ -10,8 +10,8 @@ use Rattle.ghs_view.specs.PairPage.{IsPairPage}
 use Rattle.ghs_view.specs.RunPage.{IsRunPage}
 use Rattle.peer_page.specs.Limits.{IsPairTooLarge, IsTooLarge}
 use Rattle.peer_network.specs.Wakes.{may_wake}
-use Rattle.ghs_cli.specs.declared.fault.ServeFault.{ServeFault}
-use Rattle.ghs_cli.specs.declared.fault.ServeFault.TheVariants as serve
+use Rattle.ghs_answers.specs.declared.fault.ServeFault.{ServeFault}
+use Rattle.ghs_answers.specs.declared.fault.ServeFault.TheVariants as serve
 use Rattle.ghs_commands.specs.declared.job.StoredViewOptions.{StoredViewOptions}
 use Rattle.ghs_commands.specs.declared.job.ViewOptions.{ViewOptions}
 

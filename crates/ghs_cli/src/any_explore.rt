@@ -4,8 +4,8 @@ ghost use Rattle.ghs_commands.specs.Job.{AreExploreLimits};
 ghost use Rattle.ghs_commands.specs.declared.exploring.Finding.{Finding};
 ghost use Rattle.std.specs.Prelude.{◌≡◌, ◌<◌, ◌≤◌, Err, IfErr, IfOk, length};
 
-use crate::fault::ServeFault;
 use crate::progress::Teller;
+use ghs_answers::fault::ServeFault;
 use ghs_commands::exploring::{ExploreOptions, Finding};
 use ghs_graph::graph::Graph;
 use peer_explore::explore::explore_watched;

@@ -1,8 +1,10 @@
 //! Runs of a network by any protocol, and stored ones played again or told.
-ghost use Rattle.ghs_cli.specs.AnyRun.{AreSteps, GoesOn, IsRan, IsReplayed, IsRunCause, IsShown, IsText, StopsRun};
-ghost use Rattle.ghs_cli.specs.Serving.{IsWrite, is_late, is_memory, is_write};
-ghost use Rattle.ghs_cli.specs.Stepping.{HasTold};
-ghost use Rattle.ghs_cli.specs.declared.fault.ServeFault.{ServeFault};
+ghost use Rattle.ghs_answers.specs.Stepping.{AreSteps};
+ghost use Rattle.ghs_cli.specs.AnyRun.{GoesOn, IsRan, IsReplayed, IsRunCause, IsShown, IsText, StopsRun};
+ghost use Rattle.ghs_answers.specs.Causes.{IsWrite, is_memory, is_write};
+ghost use Rattle.ghs_cli.specs.Serving.{is_late};
+ghost use Rattle.ghs_answers.specs.Stepping.{HasTold};
+ghost use Rattle.ghs_answers.specs.declared.fault.ServeFault.{ServeFault};
 ghost use Rattle.ghs_commands.specs.declared.job.Show.TheVariants.{Events};
 ghost use Rattle.ghs_commands.specs.declared.job.Task.{Task};
 ghost use Rattle.peer_machine.specs.Run.{IsRunUnder, net_after};
@@ -13,9 +15,9 @@ ghost use Rattle.peer_runs.specs.WorldState.{wakers};
 ghost use Rattle.peer_trace.specs.Text.{stored_text};
 ghost use Rattle.std.specs.Prelude.{◌≡◌, ◌↔◌, false, true, OnOk, IfErr, IfOk, IsErrOf};
 
-use crate::fault::ServeFault;
 use crate::running::Output;
-use crate::timing::time_text_of;
+use ghs_answers::fault::ServeFault;
+use ghs_answers::timing::time_text_of;
 use ghs_choices::schedule_kind::ScheduleKind;
 use ghs_commands::job::{RunOptions, Show, StepsOptions};
 use ghs_gr::device::Sink;

@@ -1,10 +1,11 @@
 //! Pages of runs by any protocol: of the run that a seed picks or those of two, and of a stored one.
 ghost use Rattle.peer_view.specs.PairPage.{IsPairPage};
 ghost use Rattle.peer_view.specs.RunPage.{IsRunPage};
-ghost use Rattle.ghs_cli.specs.AnyView.{HasNoStoredView, HasNoView, IsPairView, IsRunView, IsShownBy, IsStoredView, IsView};
+ghost use Rattle.ghs_answers.specs.StoredView.{HasNoStoredView, IsStoredView};
+ghost use Rattle.ghs_cli.specs.AnyView.{HasNoView, IsPairView, IsRunView, IsShownBy, IsView};
 ghost use Rattle.std.specs.Prelude.{◌≡◌, None, Some, IfErr, IfOk};
 
-use crate::fault::ServeFault;
+use ghs_answers::fault::ServeFault;
 use ghs_commands::job::{StoredViewOptions, ViewOptions};
 use ghs_graph::graph::Graph;
 use peer_machine::ends::Ends;

@@ -4,8 +4,8 @@ ghost use Rattle.ghs_cli.specs.Viewing.{HasNoPairView, IsPairView};
 ghost use Rattle.ghs_picking.specs.Picking.{IsPickedBy};
 ghost use Rattle.std.specs.Prelude.{◌≡◌, IfErr, IfOk};
 
-use crate::fault::ServeFault;
 use crate::viewing::world_of;
+use ghs_answers::fault::ServeFault;
 use ghs_commands::job::ViewOptions;
 use ghs_graph::graph::Graph;
 use ghs_view::pair::pair_page;

@@ -1,18 +1,19 @@
 //! Explorations: with which counts of messages all runs of a small network end, and a run of each.
 ghost use Rattle.ghs_cli.specs.Exploring.{AreEndsOf, FindsNothing, IsBehind, IsFound, IsRunOf};
-ghost use Rattle.ghs_cli.specs.Serving.{IsOfText, IsTextCause, is_write};
+ghost use Rattle.ghs_cli.specs.Serving.{IsOfText, IsTextCause};
+ghost use Rattle.ghs_answers.specs.Causes.{is_write};
 ghost use Rattle.ghs_cli.specs.Verbs.{verbs_of};
-ghost use Rattle.ghs_cli.specs.declared.fault.ServeFault.{ServeFault};
+ghost use Rattle.ghs_answers.specs.declared.fault.ServeFault.{ServeFault};
 ghost use Rattle.ghs_commands.specs.Job.{AreExploreLimits};
 ghost use Rattle.ghs_commands.specs.declared.exploring.Finding.{Finding};
 ghost use Rattle.std.specs.Prelude.{◌≡◌, ◌<◌, ◌≤◌, ◌↔◌, false, true, Err, IfErr, IfOk, IfSome, IsErrOf, length};
 
 use crate::any_explore;
-use crate::fault::ServeFault;
 use crate::progress::Teller;
 use crate::reading::graph_of;
 use boruvka::protocol::Boruvka;
 use echo::protocol::Echo;
+use ghs_answers::fault::ServeFault;
 use ghs_commands::exploring::{ExploreOptions, Finding};
 use ghs_explore::explore::explore_watched;
 use ghs_explore::explored::Explored;

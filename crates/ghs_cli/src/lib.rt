@@ -1,26 +1,21 @@
-//! The program's engine: the work that command lines ask for, and its faults.
+//! The program's engine: the work that command lines ask for.
 //!
 //! Proved: at success `serve` has written exactly what the task prints of the bytes that it read, and else it answers the
 //! first fault whose cause is there (`serves`). Read and Write come exactly where a device failed (`read`, `write`); the
 //! output is made whole before its first byte goes out, except for steps and networks that are made (`unwritten`).
-//! `sweep_networks` is the same for sweeps of several networks (`swept`), `run_by_book` for runs by a user's book (`run`), and
-//! for stored ones `stored_by_book`, `replay_by_book` and `steps_by_book`.
+//! `sweep_networks` is the same for sweeps of several networks (`swept`). What goes by a user's book is in `own_cli`.
 //!
-//! Only tested: the texts of faults, the lines of `--progress`, failing devices (`ghs_hostile_examples`), and the built
+//! Only tested: the lines of `--progress`, failing devices (`ghs_hostile_examples`), and the built
 //! program (`cases/`). docs/ARCHITECTURE.md leads from a command to the crates below.
 #![tactic(auto)]
 
-pub mod again_by_book;
 mod any_explore;
 mod any_run;
 mod any_view;
 mod beside;
-pub mod by_book;
 mod charting;
 mod exploring;
-pub mod fault;
 mod fronts;
-pub mod judging;
 mod making;
 pub mod networks;
 mod parting;
@@ -33,5 +28,4 @@ pub mod serve;
 mod stepping;
 mod sweeping;
 mod swept;
-mod timing;
 mod viewing;

@@ -1,10 +1,11 @@
 //! A network that is made.
-ghost use Rattle.ghs_cli.specs.Serving.{IsWrite, Serves, is_late};
-ghost use Rattle.ghs_cli.specs.declared.fault.ServeFault.{ServeFault};
+ghost use Rattle.ghs_answers.specs.Causes.{IsWrite};
+ghost use Rattle.ghs_cli.specs.Serving.{Serves, is_late};
+ghost use Rattle.ghs_answers.specs.declared.fault.ServeFault.{ServeFault};
 ghost use Rattle.ghs_commands.specs.declared.job.Task.{Task};
 ghost use Rattle.std.specs.Prelude.{IfErr, IsErrOf, List, false, true, ◌↔◌, ◌≡◌, ℕ};
 
-use crate::fault::ServeFault;
+use ghs_answers::fault::ServeFault;
 use ghs_gr::device::Sink;
 use ghs_make::network::Network;
 use ghs_make::plan::Asked;

@@ -1,15 +1,16 @@
 //! Sweeps of several networks, whose lines begin with names.
 ghost use Rattle.ghs_commands.specs.Job.{AreSweepLimits};
 ghost use Rattle.ghs_cli.specs.Networks.{AreLinesOf, AreLinesOfAll, HasSwept, IsNetworksText, IsSweepOf, front_head};
-ghost use Rattle.ghs_cli.specs.Serving.{IsGraphCause, IsTextOf, IsWrite};
-ghost use Rattle.ghs_cli.specs.declared.fault.ServeFault.{ServeFault};
+ghost use Rattle.ghs_cli.specs.Serving.{IsGraphCause, IsTextOf};
+ghost use Rattle.ghs_answers.specs.Causes.{IsWrite};
+ghost use Rattle.ghs_answers.specs.declared.fault.ServeFault.{ServeFault};
 ghost use Rattle.std.specs.Prelude.{◌≡◌, ◌++◌, ◌↔◌, List, ℕ, false, string_bytes, true, IfErr, IfOk, IfSome, IsErrOf};
 
 use crate::charting::chart_text;
-use crate::fault::ServeFault;
 use crate::progress::tell_networks;
 use crate::reading::graph_of;
 use crate::sweeping::{put_heads, put_lines_by};
+use ghs_answers::fault::ServeFault;
 use ghs_choices::form::Form;
 use ghs_commands::job::{Sheet, SweepOptions};
 use ghs_gr::device::{Sink, Source};

@@ -1,6 +1,7 @@
 //! Sweeps by parts, by any protocol: the messages of each run by node or level, or how often each rule applied.
 ghost use Rattle.ghs_commands.specs.Job.{AreSweepLimits};
-ghost use Rattle.ghs_cli.specs.Sweeping.{ArePartedRuns, count_of};
+ghost use Rattle.ghs_answers.specs.Sheets.{count_of};
+ghost use Rattle.ghs_cli.specs.Sweeping.{ArePartedRuns};
 ghost use Rattle.ghs_cli.specs.Parted.{IsPartedByGhs};
 ghost use Rattle.ghs_cli.specs.Swept.{IsPartedBy};
 ghost use Rattle.ghs_picking.specs.Picking.{IsPickedBy};
@@ -8,9 +9,10 @@ ghost use Rattle.std.specs.Prelude.{◌≡◌, ◌+◌, ◌-◌, ◌<◌, ◌≤
 ghost use Rattle.std.specs.Thread.{IsSync};
 
 use crate::progress::tell_seeds;
-use crate::swept::{part_columns, setup_of};
+use crate::swept::part_columns;
 use boruvka::protocol::Boruvka;
 use echo::protocol::Echo;
+use ghs_answers::sheets::setup_of;
 use ghs_choices::by::By;
 use ghs_commands::job::SweepOptions;
 use ghs_commands::values::Seeds;

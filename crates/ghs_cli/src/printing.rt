@@ -1,10 +1,10 @@
 //! What is printed as a whole.
 ghost use Rattle.ghs_cli.specs.Printing.{HasPrinted};
-ghost use Rattle.ghs_cli.specs.Serving.{IsWrite, is_write};
-ghost use Rattle.ghs_cli.specs.declared.fault.ServeFault.{ServeFault};
+ghost use Rattle.ghs_answers.specs.Causes.{IsWrite, is_write};
+ghost use Rattle.ghs_answers.specs.declared.fault.ServeFault.{ServeFault};
 ghost use Rattle.std.specs.Prelude.{◌≡◌, ◌↔◌, false, true, IfErr, IsErrOf};
 
-use crate::fault::ServeFault;
+use ghs_answers::fault::ServeFault;
 use ghs_gr::device::Sink;
 use ghs_report::write_out::write_out;
 

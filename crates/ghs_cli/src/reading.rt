@@ -1,9 +1,10 @@
 //! What the devices give: a graph, and the events of a stored run.
-ghost use Rattle.ghs_cli.specs.Serving.{IsGraphCause, IsTextOf, IsTraceCause, IsTraceText, is_limit, is_write};
-ghost use Rattle.ghs_cli.specs.declared.fault.ServeFault.{ServeFault};
+ghost use Rattle.ghs_cli.specs.Serving.{IsGraphCause, IsTextOf, IsTraceCause, IsTraceText, is_limit};
+ghost use Rattle.ghs_answers.specs.Causes.{is_write};
+ghost use Rattle.ghs_answers.specs.declared.fault.ServeFault.{ServeFault};
 ghost use Rattle.std.specs.Prelude.{◌≡◌, ◌≤◌, ◌↔◌, false, length, true, IfErr, IfOk, IfSome, IsErrOf};
 
-use crate::fault::ServeFault;
+use ghs_answers::fault::ServeFault;
 use ghs_gr::device::Source;
 use ghs_gr::judgement::read_gr;
 use ghs_gr::text::read_text;

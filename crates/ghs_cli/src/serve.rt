@@ -1,12 +1,12 @@
 //! The work that a job asks for.
 ghost use Rattle.ghs_commands.specs.Job.{IsWithinLimits};
-ghost use Rattle.ghs_cli.specs.Serving.{IfStored, IsBoundedTask, IsGraphCause, IsTreeText, IsUnread, IsUnwritten, IsWrite, Serves, is_write};
-ghost use Rattle.ghs_cli.specs.declared.fault.ServeFault.{ServeFault};
+ghost use Rattle.ghs_cli.specs.Serving.{IfStored, IsBoundedTask, IsGraphCause, IsTreeText, IsUnread, IsUnwritten, Serves};
+ghost use Rattle.ghs_answers.specs.Causes.{IsWrite, is_write};
+ghost use Rattle.ghs_answers.specs.declared.fault.ServeFault.{ServeFault};
 ghost use Rattle.peer_network.specs.declared.wake_set.WakeSet.TheVariants.{All};
 ghost use Rattle.std.specs.Prelude.{◌≡◌, ◌⊎◌, ◌↔◌, false, true, IfSome, IsErrOf, IfErr, IfOk};
 
 use crate::exploring::explored_text_of;
-use crate::fault::ServeFault;
 use crate::making::write_network_of;
 use crate::printing::print;
 use crate::replaying::replay_text_of;
@@ -14,6 +14,7 @@ use crate::running::write_run_of;
 use crate::stepping::write_steps_of;
 use crate::sweeping::sweep_text_of;
 use crate::viewing::{stored_view_of, view_text_of};
+use ghs_answers::fault::ServeFault;
 use ghs_commands::job::{Job, Task};
 use ghs_gr::device::{Sink, Source};
 use ghs_gr::judgement::read_gr;

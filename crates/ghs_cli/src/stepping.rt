@@ -1,18 +1,19 @@
 //! What each event of a stored run does, line by line.
 ghost use Rattle.ghs_cli.specs.Running.{AreSteps};
-ghost use Rattle.ghs_cli.specs.Serving.{IsWrite, Serves, is_late, is_memory, is_write};
-ghost use Rattle.ghs_cli.specs.Stepping.{HasTold};
+ghost use Rattle.ghs_answers.specs.Causes.{IsWrite, is_memory, is_write};
+ghost use Rattle.ghs_cli.specs.Serving.{Serves, is_late};
+ghost use Rattle.ghs_answers.specs.Stepping.{HasTold};
 ghost use Rattle.ghs_cli.specs.Verbs.{verbs_of};
-ghost use Rattle.ghs_cli.specs.declared.fault.ServeFault.{ServeFault};
+ghost use Rattle.ghs_answers.specs.declared.fault.ServeFault.{ServeFault};
 ghost use Rattle.ghs_commands.specs.declared.job.Task.{Task};
 ghost use Rattle.ghs_sched.specs.Replays.{IsFirstUnlawful};
 ghost use Rattle.std.specs.Prelude.{◌≡◌, ◌≤◌, ◌⊎◌, ◌↔◌, false, length, true, IfErr, IfSome, IsErrOf};
 
 use crate::any_run;
-use crate::fault::ServeFault;
 use crate::reading::{events_of, graph_of};
 use boruvka::protocol::Boruvka;
 use echo::protocol::Echo;
+use ghs_answers::fault::ServeFault;
 use ghs_commands::job::StepsOptions;
 use ghs_gr::device::{Sink, Source};
 use ghs_graph::graph::Graph;

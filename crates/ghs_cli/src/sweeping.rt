@@ -1,21 +1,23 @@
 //! Sweeps: the figures of many seeds' runs, or what they come to.
 ghost use Rattle.ghs_commands.specs.Job.{AreSweepLimits};
 ghost use Rattle.ghs_cli.specs.Charts.{IsSweepText};
-ghost use Rattle.ghs_cli.specs.Serving.{IsGraphCause, IsOfText, is_write};
-ghost use Rattle.ghs_cli.specs.Swept.{AreRunsBy, part_columns, setup_of};
-ghost use Rattle.ghs_cli.specs.Sweeping.{AreLines, AreLinesBy, AreSheetLines, AreSweptLines, IsSwept, count_of, first_of, head_by, head_of, heads_of};
+ghost use Rattle.ghs_cli.specs.Serving.{IsGraphCause, IsOfText};
+ghost use Rattle.ghs_answers.specs.Causes.{is_write};
+ghost use Rattle.ghs_cli.specs.Swept.{AreRunsBy, part_columns};
+ghost use Rattle.ghs_answers.specs.Sheets.{count_of, setup_of};
+ghost use Rattle.ghs_cli.specs.Sweeping.{AreLines, AreLinesBy, AreSweptLines, IsSwept, first_of, head_by, heads_of};
 ghost use Rattle.peer_parts.specs.Line.{head_line as part_head};
-ghost use Rattle.peer_sweep.specs.Figures.{LeavesRoom};
-ghost use Rattle.ghs_cli.specs.declared.fault.ServeFault.{ServeFault};
-ghost use Rattle.std.specs.Prelude.{◌≡◌, ◌≤◌, ◌++◌, ◌↔◌, All, List, ℕ, false, length, true, IfErr, IfOk, IfSome, IsErrOf};
+ghost use Rattle.ghs_answers.specs.declared.fault.ServeFault.{ServeFault};
+ghost use Rattle.std.specs.Prelude.{◌≡◌, ◌≤◌, ◌++◌, ◌↔◌, List, ℕ, false, length, true, IfErr, IfOk, IfSome, IsErrOf};
 
 use crate::charting::nameless_chart;
-use crate::fault::ServeFault;
 use crate::fronts::{front_by, protocol_head, says_protocol};
 use crate::parting::{Parting, put_parted};
 use crate::progress::tell_seeds;
 use crate::reading::graph_of;
-use crate::swept::{part_columns, run_seeds_by, setup_of, table_by};
+use crate::swept::{part_columns, run_seeds_by, table_by};
+use ghs_answers::fault::ServeFault;
+use ghs_answers::sheets::{put_head_of, put_sheet, setup_of};
 use ghs_choices::by::By;
 use ghs_choices::form::Form;
 use ghs_commands::job::{Sheet, SweepOptions};
@@ -25,10 +27,6 @@ use ghs_graph::graph::Graph;
 use peer_parts::line as part_line;
 use peer_sweep::figures::Figures;
 use peer_sweep::front::bare_front;
-use peer_sweep::line::put_head;
-use peer_sweep::lines::put_runs;
-use peer_sweep::setup::Setup;
-use peer_sweep::summary::{SUMMARY_HEAD, put_summary};
 use peer_sweep::table::Table;
 use peer_trace::protocol::Protocol;
 use std::alloc::{AllocError, Global};
@@ -198,18 +196,6 @@ fn put_lines_of<R: Threads + Sync + Eprint>(
     }
 }
 
-/// The names of the columns, as a line; lines of JSON say them with each value.
-fn put_head_of(text: &mut Vec<u8>, table: &Table, options: &SweepOptions) -> Result<(), AllocError>
-    ensures { IfOk result (λ _. text.new.items ≡ text.old.items ++ head_of table.now options.now.form options.now.sheet) }
-{
-    match (options.form, options.sheet) {
-        (Form::Text, Sheet::Runs) => put_head(text, table),
-        (Form::Text, Sheet::Summary) => text.extend_from_slice(SUMMARY_HEAD),
-        (Form::Text, Sheet::Chart) => Ok(()),
-        (Form::Json, _) => Ok(()),
-    }
-}
-
 /// Puts the lines of the runs of a graph behind a text, each behind the same front. Refusal: out of memory.
 fn put_swept<R: Threads + Sync + Eprint>(
     rt: &R,
@@ -227,71 +213,6 @@ fn put_swept<R: Threads + Sync + Eprint>(
     let runs = runs_of(rt, alloc, protocol, graph, options)?;
     let setup = setup_of(options);
     put_sheet(alloc, text, options, setup, &table, front, &runs)?;
-    Ok(())
-}
-
-/// Puts what is printed of the runs of a sweep behind a text, each line behind the same front. A chart has no lines:
-/// where one is asked for, it is made by `charting`, and this isn't called.
-fn put_sheet(
-    alloc: Global,
-    text: &mut Vec<u8>,
-    options: &SweepOptions,
-    setup: Setup,
-    table: &Table,
-    front: &[u8],
-    runs: &[Figures],
-) -> Result<(), AllocError>
-    requires limits { AreSweepLimits options.now }
-    requires all { length runs.now ≡ count_of options.now }
-    requires small { All LeavesRoom runs.now }
-    ensures { IfOk result (λ _. (lines : List ℕ) × AreSheetLines options.now.sheet options.now.form front.now table.now setup options.now.seeds.first runs.now lines × (text.new.items ≡ text.old.items ++ lines)) }
-{
-    match options.sheet {
-        Sheet::Runs => put_lines(text, options, setup, table, front, runs),
-        Sheet::Summary => put_measures(alloc, text, options, setup, table, front, runs),
-        Sheet::Chart => Ok(()),
-    }
-}
-
-/// The lines of the runs.
-fn put_lines(
-    text: &mut Vec<u8>,
-    options: &SweepOptions,
-    setup: Setup,
-    table: &Table,
-    front: &[u8],
-    runs: &[Figures],
-) -> Result<(), AllocError>
-    requires limits { AreSweepLimits options.now }
-    requires all { length runs.now ≡ count_of options.now }
-    requires sheet { options.now.sheet ≡ Sheet.Runs }
-    ensures { IfOk result (λ _. (lines : List ℕ) × AreSheetLines options.now.sheet options.now.form front.now table.now setup options.now.seeds.first runs.now lines × (text.new.items ≡ text.old.items ++ lines)) }
-{
-    let Seeds { first, last } = options.seeds;
-    prove!(first <= last);
-    put_runs(text, options.form, front, table, setup, first, runs)?;
-    Ok(())
-}
-
-/// The lines of their summary.
-fn put_measures(
-    alloc: Global,
-    text: &mut Vec<u8>,
-    options: &SweepOptions,
-    setup: Setup,
-    table: &Table,
-    front: &[u8],
-    runs: &[Figures],
-) -> Result<(), AllocError>
-    requires limits { AreSweepLimits options.now }
-    requires all { length runs.now ≡ count_of options.now }
-    requires small { All LeavesRoom runs.now }
-    requires sheet { options.now.sheet ≡ Sheet.Summary }
-    ensures { IfOk result (λ _. (lines : List ℕ) × AreSheetLines options.now.sheet options.now.form front.now table.now setup options.now.seeds.first runs.now lines × (text.new.items ≡ text.old.items ++ lines)) }
-{
-    let Seeds { first, last } = options.seeds;
-    prove!(first <= last);
-    put_summary(alloc, text, options.form, front, table, runs)?;
     Ok(())
 }
 

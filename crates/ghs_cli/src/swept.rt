@@ -1,12 +1,11 @@
 //! How each protocol is swept. A further protocol has a line in each function by protocols here.
-ghost use Rattle.ghs_cli.specs.Swept.{AreRunsBy, IsBoundBy, kind_columns, layout_by, part_columns, part_names, setup_of};
+ghost use Rattle.ghs_cli.specs.Swept.{AreRunsBy, IsBoundBy, kind_columns, layout_by, part_columns, part_names};
 ghost use Rattle.peer_sweep.specs.Sweep.{HasTurns};
 ghost use Rattle.std.specs.Prelude.{◌≡◌, ◌+◌, ◌≤◌, ◌^◌, IfOk, OnErr, length};
 
 use boruvka::protocol::Boruvka;
 use echo::protocol::Echo;
 use ghs_choices::by::By;
-use ghs_commands::job::SweepOptions;
 use ghs_graph::bounds::bound;
 use ghs_graph::graph::Graph;
 use ghs_sweep::seeded::Ghs;
@@ -41,7 +40,7 @@ fn kind_columns() -> [Word<'static>; 10]
 }
 
 /// How the lines of a protocol's runs are laid out. Refusal: out of memory.
-pub(crate) fn table_by(alloc: Global, protocol: Protocol) -> Result<Table, AllocError>
+pub(crate) fn table_by(alloc: Global, protocol: Protocol) -> Result<Table<'static>, AllocError>
     ensures { IfOk result (λ t. t ≡ layout_by protocol) }
 {
     let kinds = kind_columns();
@@ -94,17 +93,6 @@ pub(crate) fn bound_by(protocol: Protocol, graph: &Graph) -> u64
         Protocol::Ghs => bound(graph.nodes(), graph.links()),
         Protocol::Boruvka => Boruvka::bound_of((), graph),
         Protocol::Echo => Echo::bound_of((), graph),
-    }
-}
-
-/// What the runs of a sweep have in common.
-pub(crate) fn setup_of(options: &SweepOptions) -> Setup
-    ensures { result ≡ setup_of options.now }
-{
-    Setup {
-        schedule_kind: options.schedule_kind,
-        wake: options.wake,
-        turns: options.turns,
     }
 }
 

@@ -1,9 +1,10 @@
 //! Pages of runs: of the run that a seed picks, of the runs of two, and of a stored one.
 ghost use Rattle.ghs_commands.specs.Job.{AreViewLimits};
-ghost use Rattle.ghs_cli.specs.Serving.{IsBothCause, IsOfBoth, IsOfText, IsTextCause, is_write};
+ghost use Rattle.ghs_cli.specs.Serving.{IsBothCause, IsOfBoth, IsOfText, IsTextCause};
+ghost use Rattle.ghs_answers.specs.Causes.{is_write};
 ghost use Rattle.ghs_cli.specs.Verbs.{verbs_of};
 ghost use Rattle.ghs_cli.specs.Viewing.{HasNoSeedView, HasNoStoredView, HasNoView, IsSeedView, IsStoredView, IsView};
-ghost use Rattle.ghs_cli.specs.declared.fault.ServeFault.{ServeFault};
+ghost use Rattle.ghs_answers.specs.declared.fault.ServeFault.{ServeFault};
 ghost use Rattle.ghs_picking.specs.Picking.{IsPickedBy};
 ghost use Rattle.ghs_view.specs.RunPage.{IsRunPage};
 ghost use Rattle.peer_page.specs.Limits.{IsTooLarge};
@@ -11,10 +12,10 @@ ghost use Rattle.std.specs.Prelude.{◌≡◌, ◌≤◌, ◌⊎◌, ◌↔◌, 
 
 use crate::any_view;
 use crate::beside::pair_viewed;
-use crate::fault::ServeFault;
 use crate::reading::{events_of, graph_of};
 use boruvka::protocol::Boruvka;
 use echo::protocol::Echo;
+use ghs_answers::fault::ServeFault;
 use ghs_commands::job::{StoredViewOptions, ViewOptions};
 use ghs_gr::device::Source;
 use ghs_graph::graph::Graph;

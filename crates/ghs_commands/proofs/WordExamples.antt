@@ -175,18 +175,78 @@ events_of_own-taken : kinds_of (by_book (codes "--print" ∷ codes "trace" ∷ [
 unfolding program clap_on_literals
 events_of_own-taken = refl
 
-time_of_own-refused : kinds_of (by_book (codes "--print" ∷ codes "time" ∷ [])) ≡ kind.InvalidValue ∷ []
+time_of_own-taken : kinds_of (by_book (codes "--print" ∷ codes "time" ∷ [])) ≡ []
 unfolding program clap_on_literals
-time_of_own-refused = refl
+time_of_own-taken = refl
 
 core_of_own-refused : kinds_of (by_book (codes "--core" ∷ [])) ≡ kind.InvalidValue ∷ []
 unfolding program clap_on_literals
 core_of_own-refused = refl
 
-own_in_all_runs-refused :
-    kinds_of (codes "explore" ∷ codes "--protocol" ∷ codes "own" ∷ codes "--book" ∷ codes "b.txt" ∷ []) ≡ kind.InvalidValue ∷ []
+-- all runs by it
+abbrev all_by_own : List Text → List Text
+all_by_own words = codes "explore" ∷ codes "--protocol" ∷ codes "own" ∷ words
+
+own_in_all_runs-taken : kinds_of (all_by_own (codes "--book" ∷ codes "b.txt" ∷ [])) ≡ []
 unfolding program clap_on_literals
-own_in_all_runs-refused = refl
+own_in_all_runs-taken = refl
+
+own_in_all_runs-asked : is_own (command_in (all_by_own (codes "--book" ∷ codes "b.txt" ∷ []))) ≡ true
+unfolding program clap_on_literals
+own_in_all_runs-asked = refl
+
+all_runs_without_book-refused : kinds_of (all_by_own []) ≡ kind.InvalidValue ∷ []
+unfolding program clap_on_literals
+all_runs_without_book-refused = refl
+
+-- many runs by it
+abbrev many_by_own : List Text → List Text
+many_by_own words = codes "sweep" ∷ codes "--seeds" ∷ codes "1..2" ∷ codes "--protocol" ∷ codes "own" ∷ words
+
+sweep_of_own-taken : kinds_of (many_by_own (codes "--book" ∷ codes "b.txt" ∷ codes "--print" ∷ codes "summary" ∷ [])) ≡ []
+unfolding program clap_on_literals
+sweep_of_own-taken = refl
+
+sweep_of_own-asked : is_own (command_in (many_by_own (codes "--book" ∷ codes "b.txt" ∷ []))) ≡ true
+unfolding program clap_on_literals
+sweep_of_own-asked = refl
+
+sweep_without_book-refused : kinds_of (many_by_own []) ≡ kind.InvalidValue ∷ []
+unfolding program clap_on_literals
+sweep_without_book-refused = refl
+
+chart_of_own-refused : kinds_of (many_by_own (codes "--book" ∷ codes "b.txt" ∷ codes "--print" ∷ codes "chart" ∷ [])) ≡ kind.InvalidValue ∷ []
+unfolding program clap_on_literals
+chart_of_own-refused = refl
+
+parts_of_own-refused : kinds_of (many_by_own (codes "--book" ∷ codes "b.txt" ∷ codes "--by" ∷ codes "node" ∷ [])) ≡ kind.InvalidValue ∷ []
+unfolding program clap_on_literals
+parts_of_own-refused = refl
+
+names_of_own-refused : kinds_of (many_by_own (codes "--book" ∷ codes "b.txt" ∷ codes "--names" ∷ [])) ≡ kind.InvalidValue ∷ []
+unfolding program clap_on_literals
+names_of_own-refused = refl
+
+two_files_of_own-refused : kinds_of (many_by_own (codes "--book" ∷ codes "b.txt" ∷ codes "a" ∷ codes "b" ∷ [])) ≡ kind.InvalidValue ∷ []
+unfolding program clap_on_literals
+two_files_of_own-refused = refl
+
+own_among_others-refused :
+    kinds_of (codes "sweep" ∷ codes "--seeds" ∷ codes "1..2" ∷ codes "--protocol" ∷ codes "ghs,own" ∷ codes "--book" ∷ codes "b.txt" ∷ [])
+    ≡ kind.InvalidValue ∷ []
+unfolding program clap_on_literals
+own_among_others-refused = refl
+
+sweep_of_ghs_by_book-refused :
+    kinds_of (codes "sweep" ∷ codes "--seeds" ∷ codes "1..2" ∷ codes "--book" ∷ codes "b.txt" ∷ []) ≡ kind.InvalidValue ∷ []
+unfolding program clap_on_literals
+sweep_of_ghs_by_book-refused = refl
+
+-- a page of a run by it
+page_of_own-taken :
+    kinds_of (codes "view" ∷ codes "--protocol" ∷ codes "own" ∷ codes "--book" ∷ codes "b.txt" ∷ codes "--seeds" ∷ codes "2,9" ∷ []) ≡ []
+unfolding program clap_on_literals
+page_of_own-taken = refl
 
 book_of_ghs-refused : kinds_of (codes "run" ∷ codes "--book" ∷ codes "b.txt" ∷ []) ≡ kind.InvalidValue ∷ []
 unfolding program clap_on_literals

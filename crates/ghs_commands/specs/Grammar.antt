@@ -151,21 +151,22 @@ book_rule = record (new_rule (codes "book")) { long = Some (codes "book"); requi
 abbrev pub judge_command : App
 judge_command = with_rules (trace_rule ∷ file_rule ∷ book_rule ∷ wake_rule ∷ []) (new_app (codes "judge"))
 
--- `sweep [FILE ..] [--protocol ghs|boruvka|echo,..] --seeds FIRST..LAST [--schedule seeded|patient|rounds|waits|lifo|round-robin] [--workers W]
--- [--wake all|first|V,..] [--turns T] [--print runs|summary|chart] [--by node|level|rule] [--names] [--json] [--progress]`
+-- `sweep [FILE ..] [--protocol ghs|boruvka|echo,..|own] [--book BOOK] --seeds FIRST..LAST
+-- [--schedule seeded|patient|rounds|waits|lifo|round-robin] [--workers W] [--wake all|first|V,..] [--turns T]
+-- [--print runs|summary|chart] [--by node|level|rule] [--names] [--json] [--progress]`
 abbrev pub sweep_command : App
 sweep_command =
     with_rules
-    (files_rule ∷ protocols_rule ∷ seeds_rule ∷ schedule_rule ∷ workers_rule ∷ wake_rule
+    (files_rule ∷ protocols_rule ∷ own_rule ∷ seeds_rule ∷ schedule_rule ∷ workers_rule ∷ wake_rule
     ∷ turns_rule ∷ sheet_rule ∷ by_rule ∷ names_rule ∷ json_rule ∷ progress_rule ∷ [])
     (new_app (codes "sweep"))
 
--- `view [FILE] [--protocol ghs|boruvka|echo] [--seed S] [--seeds FIRST,SECOND] [--schedule seeded|patient|rounds|waits|lifo|round-robin]
--- [--wake all|first|V,..] [--turns T] [--trace TRACE] [--from A] [--to B]`
+-- `view [FILE] [--protocol ghs|boruvka|echo|own] [--book BOOK] [--seed S] [--seeds FIRST,SECOND]
+-- [--schedule seeded|patient|rounds|waits|lifo|round-robin] [--wake all|first|V,..] [--turns T] [--trace TRACE] [--from A] [--to B]`
 abbrev pub view_command : App
 view_command =
     with_rules
-    (file_rule ∷ protocol_rule ∷ seed_rule ∷ pair_rule ∷ schedule_rule ∷ wake_rule
+    (file_rule ∷ protocol_rule ∷ own_rule ∷ seed_rule ∷ pair_rule ∷ schedule_rule ∷ wake_rule
     ∷ turns_rule ∷ stored_rule ∷ from_rule ∷ to_rule ∷ [])
     (new_app (codes "view"))
 
@@ -205,7 +206,7 @@ found_rule = record (new_rule (codes "found")) { long = Some (codes "print"); de
 abbrev pub end_rule : Rule
 end_rule = option_rule (codes "end") (codes "1")
 
--- `explore [FILE] [--protocol ghs|boruvka|echo] [--book BOOK] [--wake all|first|V,..] [--limit STATES] [--print report|trace] [--end K]
+-- `explore [FILE] [--protocol ghs|boruvka|echo|own] [--book BOOK] [--wake all|first|V,..] [--limit STATES] [--print report|trace] [--end K]
 -- [--progress]`
 abbrev pub explore_command : App
 explore_command =

@@ -40,7 +40,7 @@ use Rattle.ghs_commands.specs.declared.job.Task.TheVariants as task
 use Rattle.ghs_commands.specs.declared.job.ViewOptions.{ViewOptions}
 use Rattle.ghs_commands.specs.declared.two_seeds.TwoSeeds.{TwoSeeds}
 use Rattle.ghs_commands.specs.declared.values.Seeds.{Seeds}
-use Rattle.ghs_commands.specs.Networks.{are_read_once, named_of, values_in}
+use Rattle.ghs_commands.specs.Networks.{are_read_once, are_several, named_of, values_in}
 use Rattle.ghs_choices.specs.declared.by.By.{By}
 use Rattle.peer_trace.specs.Protocol.{protocol_named}
 use Rattle.peer_trace.specs.declared.protocol.Protocol.{Protocol}
@@ -167,14 +167,20 @@ pub record AreOptions (command : Used) (o : RunOptions) : Type 0 where
   pub progress : IsToldOf command o.progress
   pub tally : IsTallyOf command o.tally
 
--- a run may be by a user's own protocol, and so may a stored run be that is played again, or whose steps are shown
+-- a run may be by a user's own protocol, and so may a stored run be that is played again or told, one that is shown, and all that are explored
 abbrev pub may_be_own : Used → Bool
 may_be_own command =
-    is_said (codes "run") (name_in command) || is_said (codes "replay") (name_in command) || is_said (codes "steps") (name_in command)
+    is_said (codes "run") (name_in command)
+    || is_said (codes "replay") (name_in command)
+    || is_said (codes "steps") (name_in command)
+    || is_said (codes "view") (name_in command)
+    || is_said (codes "explore") (name_in command)
 
--- it is: the rules are the lines of a book
+-- it is, or the runs of a sweep are: the rules are the lines of a book
 abbrev pub is_own : Used → Bool
-is_own command = may_be_own command && is_said (codes "own") (value_in (codes "protocol") command)
+is_own command =
+    (may_be_own command && is_said (codes "own") (value_in (codes "protocol") command))
+    || is_said (codes "own") (value_in (codes "protocols") command)
 
 -- the protocol that `--protocol` names; it names one that there is, or the words are refused, and a command without it is of GHS, as one
 -- by a user's own, whose book counts in its place
@@ -416,42 +422,53 @@ fits_every command = runs_so command && sweeps_so command
 abbrev pub is_of_ghs : Used → Bool
 is_of_ghs command = are_ghs (value_in (codes "protocol") command) && are_ghs (value_in (codes "protocols") command)
 
--- it has a book of rules
+-- it has a book
+abbrev pub has_book : Used → Bool
+has_book command = not (is_none (value_in (codes "book") command))
+
+-- a book has rules, but for one whose node is compared with the protocol, in a stored run or in all
 abbrev pub has_rules : Used → Bool
-has_rules command = may_be_own command && not (is_none (value_in (codes "book") command))
+has_rules command = ((may_be_own command && not (is_exploration command)) || is_sweep command) && has_book command
 
 -- a protocol that there is has rules of its own, so no run of it goes by a book
 abbrev pub fits_known : Used → Bool
 fits_known command = not (has_rules command) && (is_of_ghs command || fits_every command)
 
--- how a network is run goes with a user's own protocol: no threads, the schedule that picks among all events alone, and what is printed is
--- the report or the events, without cores; nothing is told of the run
-abbrev pub goes_with_own : Used → Bool
-goes_with_own command =
+-- how a network is run goes with a user's own protocol: no threads, and the schedule that picks among all events alone; nothing is told of the
+-- run, and it has no cores
+abbrev pub runs_own : Used → Bool
+runs_own command =
     is_number 0 0 (value_in (codes "workers") command)
     && is_among (codes "seeded" ∷ []) (value_in (codes "schedule") command)
-    && is_among (codes "report" ∷ codes "trace" ∷ []) (value_in (codes "print") command)
     && not (is_said (codes "true") (value_in (codes "core") command))
     && not (is_said (codes "true") (value_in (codes "progress") command))
     && not (is_said (codes "true") (value_in (codes "tally") command))
 
+-- what is swept does: the figures of the runs of one network and their statistics, but no parts and no picture
+abbrev pub sweeps_own : Used → Bool
+sweeps_own command =
+    is_none (value_in (codes "by") command)
+    && not (is_said (codes "chart") (value_in (codes "sheet") command))
+    && not (is_said (codes "true") (value_in (codes "names") command))
+    && not (are_several (values_in (codes "FILE") command))
+
+abbrev pub goes_with_own : Used → Bool
+goes_with_own command = runs_own command && sweeps_own command
+
 -- a user's own has to have a book
 abbrev pub fits_own : Used → Bool
-fits_own command = has_rules command && goes_with_own command
+fits_own command = has_book command && goes_with_own command
 
 abbrev pub fits_protocol : Used → Bool
 fits_protocol command = if is_own command then fits_own command else fits_known command
 
--- it names a protocol that there is, or where that may be a user's own
+-- it names a protocol that there is, or those of a sweep, or a user's own where that may be
 abbrev pub names_protocol : Used → Bool
-names_protocol command = is_own command || is_protocol (value_in (codes "protocol") command)
+names_protocol command = is_own command || (is_protocol (value_in (codes "protocol") command) && are_protocols (value_in (codes "protocols") command))
 
 -- there is such a protocol, or are such protocols of a sweep, and all that is asked for goes with them
 abbrev pub has_protocol : Used → Bool
-has_protocol command =
-    names_protocol command
-    && are_protocols (value_in (codes "protocols") command)
-    && fits_protocol command
+has_protocol command = names_protocol command && fits_protocol command
 
 -- the figures of a sweep can be printed as it is asked for
 abbrev pub has_figures : Used → Bool

@@ -9,7 +9,7 @@ use clap::{Arg, ArgAction, Command};
 use std::alloc::{AllocError, Global};
 
 /// The program's version, and by which kit its proofs hold.
-pub const VERSION: &str = "2.4.0, proved with rattle-kit-13f logic dac8208d650f15bf";
+pub const VERSION: &str = "2.5.0, proved with rattle-kit-13f logic dac8208d650f15bf";
 
 /// The program's commands, with their help.
 #[tactic(auto, unfolding(crate::specs::Grammar::program))]
@@ -163,6 +163,7 @@ fn sweep<'a>(alloc: Global) -> Result<Command<'a>, AllocError>
     let arguments = vec![in alloc;
         files(alloc),
         protocols(alloc),
+        rule_book(alloc),
         seeds(alloc),
         schedule(alloc),
         sharers(alloc),
@@ -190,6 +191,7 @@ fn view<'a>(alloc: Global) -> Result<Command<'a>, AllocError>
     let arguments = vec![in alloc;
         file(alloc),
         protocol(alloc),
+        rule_book(alloc),
         seed(alloc),
         pair(alloc),
         schedule(alloc),
@@ -372,7 +374,7 @@ fn own<'a>(alloc: Global) -> Arg<'a>
     ensures rule { rule_of result ≡ own_rule }
 {
     valued(alloc, "book", "book").help(
-        "The file of a book, as of ghs judge: compares a node of your own with the protocol in all runs, and prints that alone",
+        "The book by which the nodes go, with --protocol own; without it the book of ghs judge: compares a node of your own with the protocol in all runs, and prints that alone",
     )
 }
 
@@ -502,7 +504,7 @@ fn protocol<'a>(alloc: Global) -> Arg<'a>
     ensures rule { rule_of result ≡ protocol_rule }
 {
     option(alloc, "protocol", "ghs").help(
-        "Which protocol the nodes follow: ghs, boruvka (Borůvka in step) or echo (the echo wave); the last two run without threads and by the schedules seeded, patient, rounds and lifo",
+        "Which protocol the nodes follow: ghs, boruvka (Borůvka in step), echo (the echo wave) or own (your own, whose rules are the book of --book); boruvka and echo run without threads and by the schedules seeded, patient, rounds and lifo, own by seeded alone",
     )
 }
 
@@ -514,7 +516,7 @@ fn protocols<'a>(alloc: Global) -> Arg<'a>
     valued(alloc, "protocols", "protocol")
         .default_value("ghs")
         .help(
-            "Which protocols the nodes follow, one or more between commas: ghs, boruvka (Borůvka in step) and echo (the echo wave); the last two run by the schedules seeded, patient, rounds and lifo",
+            "Which protocols the nodes follow, one or more between commas: ghs, boruvka (Borůvka in step) and echo (the echo wave); the last two run by the schedules seeded, patient, rounds and lifo. Or own alone: your own, whose rules are the book of --book",
         )
 }
 

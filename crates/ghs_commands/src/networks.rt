@@ -1,7 +1,7 @@
 //! The networks of a sweep.
 ghost use Rattle.clap.specs.Words.{subcommand_rows_of};
 ghost use Rattle.ghs_commands.specs.Job.{IsRefused};
-ghost use Rattle.ghs_commands.specs.Networks.{are_read_once, named_of, values_in};
+ghost use Rattle.ghs_commands.specs.Networks.{are_read_once, are_several, named_of, values_in};
 ghost use Rattle.ghs_commands.specs.Values.{is_dash};
 ghost use Rattle.std.specs.Option.{option_map};
 ghost use Rattle.std.specs.Prelude.{◌≡◌, IfOk, count_by, map, string_bytes};
@@ -28,6 +28,16 @@ pub(crate) fn are_read_once(files: Option<&[&str]>) -> bool
     match files {
         Some(files) => dashes_among(files) <= 1,
         None => true,
+    }
+}
+
+/// Whether several files are named.
+pub(crate) fn are_several(files: Option<&[&str]>) -> bool
+    ensures { result ≡ are_several (option_map (λ s. map (λ t. t.now) s.now) files.entry) }
+{
+    match files {
+        Some(files) => files.len() >= 2,
+        None => false,
     }
 }
 

@@ -5,18 +5,15 @@ ghost use Rattle.ghs_commands.specs.Protocols.{are_distinct, are_ghs, are_known,
 ghost use Rattle.std.specs.Option.{option_map};
 ghost use Rattle.std.specs.Prelude.{◌≡◌, IfErr, IfOk, OnErr, OnOk, codes, false, is_none, true};
 
-use crate::fitting::{has_rules, is_own, may_be_own, stranger_in, stranger_to_own};
+use crate::fitting::{has_book, has_rules, is_own, stranger_in, stranger_to_own};
 use crate::job::{JobFault, value_of};
 use crate::values::unknown_choice;
 use clap::ArgMatches;
 use peer_trace::protocol::Protocol;
 use std::alloc::{AllocError, Global};
 
-/// The names of the protocols that there are.
-const NAMES: &[&str] = &["ghs", "boruvka", "echo"];
-
-/// Those, and that of a user's own, where a command may have that.
-const NAMES_AND_OWN: &[&str] = &["ghs", "boruvka", "echo", "own"];
+/// The names that `--protocol` may have: those of the protocols that there are, and that of a user's own.
+const NAMES: &[&str] = &["ghs", "boruvka", "echo", "own"];
 
 /// Which protocol the nodes follow.
 pub(crate) fn protocol_of<'a>(matches: &ArgMatches<'a>) -> Protocol
@@ -64,27 +61,33 @@ pub(crate) fn check_protocol<'a>(alloc: Global, matches: &ArgMatches<'a>) -> Res
     ensures err { OnErr result (has_protocol (subcommand_rows_of matches.now) ≡ false) }
     ensures fault { IfErr result IsRefused }
 {
-    check_name(alloc, matches)?;
-    check_names(alloc, value_of(matches, "protocols"))?;
+    check_named(alloc, matches)?;
     check_fit(alloc, matches)
 }
 
-/// Whether there is such a protocol, or the command goes by a user's own.
-fn check_name<'a>(alloc: Global, matches: &ArgMatches<'a>) -> Result<(), JobFault>
+/// Whether there is such a protocol, or are such protocols of a sweep, or the command goes by a user's own.
+fn check_named<'a>(alloc: Global, matches: &ArgMatches<'a>) -> Result<(), JobFault>
     ensures ok { OnOk result (names_protocol (subcommand_rows_of matches.now) ≡ true) }
     ensures err { OnErr result (names_protocol (subcommand_rows_of matches.now) ≡ false) }
     ensures fault { IfErr result IsRefused }
 {
-    let value = value_of(matches, "protocol");
-    if is_own(matches) || is_protocol(value) {
+    if is_own(matches) {
+        return Ok(());
+    }
+    check_name(alloc, value_of(matches, "protocol"))?;
+    check_names(alloc, value_of(matches, "protocols"))
+}
+
+/// Whether there is such a protocol.
+fn check_name(alloc: Global, value: Option<&str>) -> Result<(), JobFault>
+    ensures ok { OnOk result (is_protocol (option_map (λ t. t.now) value.entry) ≡ true) }
+    ensures err { OnErr result (is_protocol (option_map (λ t. t.now) value.entry) ≡ false) }
+    ensures fault { IfErr result IsRefused }
+{
+    if is_protocol(value) {
         Ok(())
     } else {
-        let names = if may_be_own(matches) {
-            NAMES_AND_OWN
-        } else {
-            NAMES
-        };
-        Err(unknown_choice(alloc, "protocol", value, names))
+        Err(unknown_choice(alloc, "protocol", value, NAMES))
     }
 }
 
@@ -148,7 +151,7 @@ fn check_own<'a>(alloc: Global, matches: &ArgMatches<'a>) -> Result<(), JobFault
     ensures err { OnErr result (fits_own (subcommand_rows_of matches.now) ≡ false) }
     ensures fault { IfErr result IsRefused }
 {
-    if !has_rules(matches) {
+    if !has_book(matches) {
         return Err(no_book(alloc));
     }
     match stranger_to_own(matches) {

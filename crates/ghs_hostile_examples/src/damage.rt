@@ -1,7 +1,7 @@
 //! Texts and command lines damaged at random, and prefixes of good ones: each answers a text or one named fault.
 ghost use Rattle.ghs_commands.specs.Job.{IsWithinLimits};
 
-use ghs_cli::fault::ServeFault;
+use ghs_answers::fault::ServeFault;
 use ghs_cli::serve::serve;
 use ghs_commands::job::{Job, JobFault, read_job};
 use ghs_gr::device::Device;

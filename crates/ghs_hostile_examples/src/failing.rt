@@ -3,7 +3,7 @@ ghost use Rattle.ghs_commands.specs.Job.{IsWithinLimits};
 ghost use Rattle.std.specs.Io.KnownBytes.{ReadConsumes, WriteAppends};
 ghost use Rattle.std.specs.Io.{ReadsAtMost, WritesAtMost};
 
-use ghs_cli::fault::ServeFault;
+use ghs_answers::fault::ServeFault;
 use ghs_cli::serve::serve;
 use ghs_commands::job::{Job, read_job};
 use ghs_gr::device::Device;

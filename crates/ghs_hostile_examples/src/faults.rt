@@ -1,5 +1,5 @@
 //! What is said of faults that no input brings about.
-use ghs_cli::fault::ServeFault;
+use ghs_answers::fault::ServeFault;
 use std::test::Fail;
 
 #[test]

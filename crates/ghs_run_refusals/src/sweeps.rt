@@ -40,7 +40,7 @@ const SETUP: Setup = Setup {
 };
 
 /// How lines of GHS are laid out that have a column for a kind of its own and one for another's.
-fn table(alloc: Global) -> Result<Table, AllocError> {
+fn table(alloc: Global) -> Result<Table<'static>, AllocError> {
     Table::of::<Ghs>(alloc, &[Word::of(b"connect"), Word::of(b"echo")])
 }
 

@@ -4,4 +4,5 @@ mod Placing
 mod Paying
 pub mod Stopping
 pub mod Running
+pub mod Valued
 mod Worked

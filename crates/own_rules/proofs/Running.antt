@@ -60,6 +60,13 @@ module _ {S M : Type 0} (r : Rules S M) (turns : ℕ) (g : Shape) (wake : WakeSe
       subst (λ b. StandsSo r turns g wake es b) (sym is)
       (subst (λ ts. turns ≤ length ts) (sym same) limit.spent, subst (λ xs. 0 < length xs) ready_here limit.ready)
 
+-- the same of the same events
+pub stands_so : {S M : Type 0} (r : Rules S M) (turns : ℕ) (g : Shape) (wake : WakeSet) (ts : List Event) (limit : Bool) (es : List Event)
+    (at : Bool) →
+    es ≡ ts → at ≡ limit → StandsSo r turns g wake ts limit → StandsSo r turns g wake es at
+stands_so r turns g wake ts limit es at same is stands =
+    subst (λ xs. StandsSo r turns g wake xs at) (sym same) (subst (λ b. StandsSo r turns g wake ts b) (sym is) stands)
+
 -- what holds of a result by two clauses
 pub both : {T E : Type 0} (x : Result T E) (P Q : T → Type 0) → IfOk x P → IfOk x Q → IfOk x (λ it. P it × Q it)
 both (Ok it) P Q p q = (p, q)

@@ -1,10 +1,12 @@
--- Worked examples of a book's words, computed from the definitions.
+-- Worked examples of a book's words, and of what a page is told, computed from the definitions.
 use Rattle.std.specs.Prelude.{ℕ, ◌≡◌, false, true, List, [], ◌∷◌, codes, refl, None}
 use Rattle.own_book.specs.Entry.{Entry, entry}
 use Rattle.own_rules.specs.Deed.{goes_on, stops}
+use Rattle.own_rules.specs.Looks.{kind_look, letter_of, look_of, title_of, titled}
 use Rattle.own_rules.specs.Words.{kind_name, mark_in, says_text, variables_in, verdict_word, variables_at, word_said}
 use Rattle.own_rules.specs.declared.node.Reason.TheVariants.{Unanswered}
 use Rattle.own_rules.specs.declared.node.State.TheVariants.{Stopped}
+use Rattle.peer_words.specs.Json.{member, quoted}
 
 -- a book of the echo wave, of which only the greeting matters here
 abbrev book : List Entry
@@ -59,3 +61,26 @@ one_goes_on = refl
 
 one_stops : verdict_word (stops Unanswered) ≡ codes "stopped"
 one_stops = refl
+
+-- what a page is told
+
+the_title : title_of book ≡ codes "ghs: echo (own)"
+unfolding titled
+the_title = refl
+
+a_bare_look : kind_look book 0 ≡ codes "\"name\":\"explore\",\"short\":\"explore\",\"letter\":\"e\",\"has\":[],\"types\":\"\""
+unfolding look_of member quoted
+a_bare_look = refl
+
+a_look_with_types : kind_look book 1 ≡ codes "\"name\":\"back\",\"short\":\"back\",\"letter\":\"b\",\"has\":[],\"types\":\"level,key?\""
+unfolding look_of member quoted
+a_look_with_types = refl
+
+a_letter_that_is_taken : letter_of (codes "ra") (codes "report") ≡ 101
+a_letter_that_is_taken = refl
+
+all_letters_are_taken : letter_of (codes "a") (codes "aa") ≡ 97
+all_letters_are_taken = refl
+
+a_kind_without_a_name : kind_look [] 0 ≡ codes "\"name\":\"-\",\"short\":\"-\",\"letter\":\"-\",\"has\":[],\"types\":\"\""
+a_kind_without_a_name = refl

@@ -1,4 +1,4 @@
--- To be believed: contracts cite what stands here, and what it is made of. Proved and Kept have proofs that the impl has to name.
+-- To be believed: contracts cite what stands here, and what it is made of. Proved, Kept and Exploring have proofs that the impl has to name.
 pub mod Texts
 pub mod Questions
 pub mod Deed
@@ -12,4 +12,8 @@ pub mod Laws
 pub mod Run
 pub mod Words
 pub mod Faults
+pub mod Looks
 pub mod Kept
+pub mod Lacks
+pub mod Face
+pub mod Exploring

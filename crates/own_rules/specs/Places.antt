@@ -4,6 +4,7 @@ use Rattle.std.specs.Map.{lookup}
 use Rattle.std.specs.Option.{is_some}
 use Rattle.own_book.specs.Answer.{are_kinds}
 use Rattle.own_book.specs.Entry.{Entry}
+use Rattle.own_rules.specs.Looks.{looks_in, title_of}
 use Rattle.own_rules.specs.Questions.{asks, same_lookup}
 use Rattle.own_rules.specs.Texts.{Text, kinds_of, names_of, texts_of}
 use Rattle.own_rules.specs.declared.node.Lookup.{Lookup}
@@ -20,10 +21,13 @@ first_at pairs new place l = cond (is_some (place_in pairs new)) (place_in pairs
 abbrev pub ArePlaces : List Text → List Entry → List (Lookup × ℕ) → Type 0
 ArePlaces texts book pairs = (l : Lookup) → place_in pairs l ≡ position (asks texts l) book
 
--- the kinds and the texts are those of the book, and the places those of its answers
-pub record IsIndexed (book : List Entry) (greeted : Text) (named said : List Text) (pairs : List (Lookup × ℕ)) : Type 0 where
+-- the kinds and the texts are those of the book, the places those of its answers, and title and looks what a page is told
+pub record IsIndexed (book : List Entry) (greeted : Text) (named said : List Text) (pairs : List (Lookup × ℕ)) (headline : Text)
+    (told : List Text) : Type 0 where
   pub kinds : greeted ≡ kinds_of book
   pub readable : are_kinds greeted ≡ true
   pub names : named ≡ names_of greeted
   pub texts : said ≡ texts_of book
   pub places : ArePlaces said book pairs
+  pub title : headline ≡ title_of book
+  pub looks : told ≡ looks_in greeted

@@ -60,6 +60,18 @@ kinds_told (Some told) = kinds_greeted (saying Greeting told.1)
 abbrev pub kinds_of : List Entry → Text
 kinds_of book = kinds_told (told_in book (codes "own 1"))
 
+-- the name that it gives the protocol; a dash where it gives none
+abbrev pub name_greeted : Option Saying → Text
+name_greeted (Some (greets name kinds)) = name
+name_greeted other = codes "-"
+
+abbrev pub name_told : Option (ℕ × Text) → Text
+name_told None = codes "-"
+name_told (Some told) = name_greeted (saying Greeting told.1)
+
+abbrev pub name_of : List Entry → Text
+name_of book = name_told (told_in book (codes "own 1"))
+
 -- the name of each kind, once
 abbrev pub names_of : Text → List Text
 names_of kinds = fold noted [] (map (λ (k : Text × Text). k.0) (kinds_in kinds))

@@ -13,16 +13,22 @@
 //! of a graph by the rules of this very book, to the end or to the last turn (`IsRunBy`), and the code that runs it knows no book;
 //! what is told of it is exact (`IsTold`): the nodes that have stopped then, the questions that the book lacks, what is said of nodes
 //! that have stopped by an answer, and how many messages were sent. `Told` is `Spoken`: a message has its kind and all that stands in
-//! its brackets, a node the variables of its state and the words of `marks`, and the row says what the book did.
+//! its brackets, a node the variables of its state and the words of `marks`, and the row says what the book did. `Told` is
+//! `Measured`: a message has the bits that the types of its kind give to its values (`bits_of`), 4,294,967,295 at most.
 //!
 //! Not claimed: that the book is the answers of a program. Questions are compared field by field: that the entry that answers is
 //! the one whose question has the very text that is asked, isn't proved here. Read `specs/Rules.antt` and `specs/Deed.antt` first,
-//! then `specs/Run.antt`, `specs/Stops.antt`, `specs/Faults.antt` and `specs/Words.antt`.
+//! then `specs/Run.antt`, `specs/Stops.antt`, `specs/Faults.antt`, `specs/Words.antt` and `specs/Bits.antt`.
 #![tactic(auto)]
 
+mod bits;
 mod deed;
+pub mod explorable;
+mod face;
 pub mod faults;
+pub mod lacks;
 pub mod laws;
+pub mod looks;
 pub mod node;
 mod places;
 pub mod protocol;
@@ -30,4 +36,5 @@ pub mod rulebook;
 pub mod run;
 mod spoken;
 pub mod stops;
-mod texts;
+pub mod texts;
+mod viewed;

@@ -7,13 +7,15 @@ ghost use Rattle.own_book.specs.declared.question.Asked.TheVariants.{Opening};
 ghost use Rattle.own_rules.specs.Deed.{deed_of};
 ghost use Rattle.own_rules.specs.Done.{AreSends, done_by};
 ghost use Rattle.own_book.specs.Asking.{open_text};
+ghost use Rattle.own_rules.specs.Looks.{kind_look as look_of_kind, title_of as title_of_book};
 ghost use Rattle.own_rules.specs.Questions.{answer_at, asked_for as asks_for};
 ghost use Rattle.own_rules.specs.Rules.{numbered, opened, opened_by, stopped as stopped_at};
-ghost use Rattle.own_rules.specs.Texts.{kind_among, kinds_many, kinds_of, number_in, text_at, texts_of as texts_of_book};
+ghost use Rattle.own_rules.specs.Texts.{kind_among, kinds_many, kinds_of, names_of as kinds_named, number_in, text_at, texts_of as texts_of_book};
 ghost use Rattle.own_rules.specs.Words.{kind_name as kind_called};
 ghost use Rattle.std.specs.Prelude.{IfNone, IfOk, IfSome, None, Some, codes, true, ◌≡◌};
 
 use crate::deed::{Done, done_by_answer};
+use crate::looks::{Looks, looks_of, title_of};
 use crate::node::{Lookup, Message, Reason, State, Stop};
 use crate::places::{Places, places_of};
 use crate::texts::{Texts, names_of, texts_of};
@@ -25,6 +27,7 @@ use own_book::book::Book;
 use own_book::parts::cut;
 use own_book::question::Asked;
 use own_book::variables::says_asleep;
+use peer_words::value::Word;
 use std::alloc::{AllocError, Global};
 use std::marker::Model;
 
@@ -38,6 +41,9 @@ pub struct Rulebook {
     names: Texts,
     texts: Texts,
     places: Places,
+    /// The title of its pages, and what these are told of each kind.
+    title: Vec<u8>,
+    looks: Looks,
 }
 
 impl Model for Rulebook {
@@ -49,7 +55,7 @@ impl Model for Rulebook {
 
     ghost view = { λ r. r.book };
 
-    ghost invariant = { λ r. IsIndexed r.book r.kinds.items r.names r.texts r.places };
+    ghost invariant = { λ r. IsIndexed r.book r.kinds.items r.names r.texts r.places r.title.items r.looks };
 }
 
 impl Rulebook {
@@ -66,12 +72,16 @@ impl Rulebook {
         let places = places_of(alloc, &book, &texts)?;
         let kinds = greeted_kinds(alloc, &book)?;
         let names = names_of(alloc, &kinds)?;
+        let title = title_of(alloc, &book)?;
+        let looks = looks_of(alloc, &kinds, &names)?;
         Ok(Rulebook {
             book,
             kinds,
             names,
             texts,
             places,
+            title,
+            looks,
         })
     }
 
@@ -175,12 +185,31 @@ impl Rulebook {
         }
     }
 
+    /// The kinds of messages that the greeting names.
+    pub(crate) fn greeted(&self) -> &[u8]
+        ensures kinds { result.now ≡ kinds_of self.now }
+        ensures readable { are_kinds result.now ≡ true }
+    {
+        self.kinds.as_slice()
+    }
+
     /// How many kinds of messages there are.
-    pub(crate) fn kinds(&self) -> usize
+    pub fn kinds(&self) -> usize
         ensures { result ≡ kinds_many (kinds_of self.now) }
     {
         let count = self.names.len();
         if count == 0 { 1 } else { count }
+    }
+
+    /// The names of the kinds that the greeting names, each once, in their order. Refusal: out of memory.
+    pub fn kind_names(&self, alloc: Global) -> Result<Vec<Word<'_>>, AllocError>
+        ensures { IfOk result (λ names. names.items ≡ kinds_named (kinds_of self.now)) }
+    {
+        let mut names = Vec::new(alloc);
+        for kind in 0..self.names.len() {
+            names.push(Word::of(self.names.text(kind)))?;
+        }
+        Ok(names)
     }
 
     /// The kind of a message.
@@ -209,6 +238,20 @@ impl Rulebook {
         } else {
             b"-"
         }
+    }
+
+    /// The title of a page of its runs.
+    pub(crate) fn title(&self) -> &[u8]
+        ensures { result.now ≡ title_of_book self.now }
+    {
+        &self.title
+    }
+
+    /// What such a page is told of a kind, by its number.
+    pub(crate) fn kind_look(&self, kind: usize) -> &[u8]
+        ensures { result.now ≡ look_of_kind self.now kind }
+    {
+        self.looks.of(kind)
     }
 }
 
@@ -252,7 +295,7 @@ fn greeted_kinds(alloc: Global, book: &Book) -> Result<Vec<u8>, AllocError>
 }
 
 /// What stands before the first `(` of a message; all of it where there is none.
-fn kind_name(message: &[u8]) -> &[u8]
+pub(crate) fn kind_name(message: &[u8]) -> &[u8]
     ensures { result.now ≡ kind_in message.now (cut_at 40 message.now) }
 {
     match cut(message, b'(') {

@@ -5,7 +5,7 @@ ghost use Rattle.peer_machine.specs.Run.{IsRunUnder};
 ghost use Rattle.peer_net.specs.NetState.{net_of, network};
 ghost use Rattle.peer_report.specs.Account.{account_lines};
 ghost use Rattle.peer_runs.specs.WorldState.{wakers};
-ghost use Rattle.std.specs.Prelude.{IfOk, ◌≡◌};
+ghost use Rattle.std.specs.Prelude.{IfOk, [], ◌≡◌};
 
 use crate::faults::faults_text;
 use crate::node::{Node, Stop};
@@ -19,7 +19,8 @@ use peer_network::event::Event;
 use peer_network::wake_set::WakeSet;
 use peer_report::account::put_account;
 use peer_runs::fault::RunFault;
-use peer_runs::run::run_seeded;
+use peer_runs::follower::Follower;
+use peer_runs::run::run_followed;
 use peer_runs::world::World;
 use peer_schedule::schedule::Schedule;
 use peer_words::spoken::Spoken;
@@ -102,12 +103,38 @@ fn run_under<P: Spoken + Protocol<Node = Node>>(
     ensures stands { IfOk result (λ ran. StandsSo P.rules turns graph wake ran.events.items ran.at_limit) }
     ensures told { IfOk result (IsTold P.rules P.words.kind P.bound rules.now graph) }
 {
+    let (world, at_limit) = run_world::<P, ()>(alloc, setting, graph, wake, seed, turns, &mut ())?;
+    ran(alloc, rules, &world, at_limit)
+}
+
+/// The world of a graph once it has run as a seed's schedule picks, to its end or to its last turn, by the rules of any protocol,
+/// while a follower follows the run; and whether its turns are used while an event may still happen. Refusal: out of memory.
+pub fn run_world<P: Protocol, F: Follower<P>>(
+    alloc: Global,
+    setting: P::Setting,
+    graph: Graph,
+    wake: WakeSet,
+    seed: u64,
+    turns: u64,
+    kept: &mut F,
+) -> Result<(World<P>, bool), AllocError>
+    requires setting { P.goes_by setting }
+    requires kept { F.is_of graph [] kept.old }
+    ensures run { IfOk result (λ ran. IsRunOf P.rules seed turns graph wake ran.0.net.trace) }
+    ensures stands { IfOk result (λ ran. StandsSo P.rules turns graph wake ran.0.net.trace ran.1) }
+    ensures graph { IfOk result (λ ran. ran.0.net.graph ≡ graph) }
+    ensures wake { IfOk result (λ ran. ran.0.wake ≡ wake) }
+    ensures kept { IfOk result (λ ran. F.is_of ran.0.net.graph ran.0.net.trace kept.new) }
+{
     let Ok(mut world) = World::<P>::open(alloc, setting, graph, wake) else {
         return Err(AllocError {});
     };
-    match run_seeded(alloc, &mut world, &mut Schedule::seeded(seed), turns) {
-        Ok(()) => ran(alloc, rules, &world, false),
-        Err(RunFault::TurnLimit) => ran(alloc, rules, &world, true),
+    let end = run_followed(alloc, &mut world, &mut Schedule::seeded(seed), turns, kept);
+    // Read for its clause: the trace is a run of the graph under the wake set.
+    let _ = world.net();
+    match end {
+        Ok(()) => Ok((world, false)),
+        Err(RunFault::TurnLimit) => Ok((world, true)),
         Err(RunFault::Memory) => Err(AllocError {}),
     }
 }

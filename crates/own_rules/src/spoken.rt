@@ -90,7 +90,7 @@ fn values(text: &[u8]) -> Option<&[u8]>
 }
 
 /// What is in front of a `)` at the end; none where none is there.
-fn closed(text: &[u8]) -> Option<&[u8]>
+pub(crate) fn closed(text: &[u8]) -> Option<&[u8]>
     ensures some { IfSome result (λ x. closed_of text.now ≡ Some x.now) }
     ensures none { IfNone result (closed_of text.now ≡ None) }
 {

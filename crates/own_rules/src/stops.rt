@@ -70,7 +70,7 @@ pub fn lacking_text(
 }
 
 /// The question after the greeting, where the book doesn't answer it.
-fn put_greeting(text: &mut Vec<u8>, rules: &Rulebook) -> Result<(), AllocError>
+pub(crate) fn put_greeting(text: &mut Vec<u8>, rules: &Rulebook) -> Result<(), AllocError>
     ensures { IfOk result (λ _. text.new.items ≡ text.old.items ++ greeting_line (told_in rules.now (codes "own 1"))) }
 {
     match rules.told(b"own 1") {

@@ -16,7 +16,7 @@ use std::marker::Model;
 
 /// Texts, none twice. Contracts see their list; a text's number is its place.
 #[derive(Drop)]
-pub(crate) struct Texts {
+pub struct Texts {
     set: IndexSet<Vec<u8>>,
 }
 
@@ -30,7 +30,7 @@ impl Model for Texts {
 
 impl Texts {
     /// No text.
-    fn new(alloc: Global) -> Texts
+    pub fn new(alloc: Global) -> Texts
         ensures { result ≡ [] }
     {
         Texts {
@@ -73,7 +73,7 @@ impl Texts {
     }
 
     /// Puts a text behind the others, where it isn't there.
-    fn note(&mut self, alloc: Global, text: &[u8]) -> Result<(), AllocError>
+    pub(crate) fn note(&mut self, alloc: Global, text: &[u8]) -> Result<(), AllocError>
         ensures { OnOk result (self.new ≡ noted self.old text.now) }
     {
         if self.set.contains(text) {

@@ -2,3 +2,6 @@
 pub mod Again
 pub mod Mark
 pub mod Sum
+pub mod Sweep
+pub mod Explore
+pub mod Gathered

@@ -1,14 +1,10 @@
 //! The mark of a book, and whether a book fits a stored run's.
-ghost use Rattle.own_book.specs.Entry.{told_in};
-ghost use Rattle.own_book.specs.Answer.{saying};
-ghost use Rattle.own_book.specs.declared.question.Asked.TheVariants.{Greeting};
-ghost use Rattle.own_runs.specs.Mark.{Fits, Misfits, mark_of as mark_of_book, name_greeted, name_of as name_of_book};
+ghost use Rattle.own_runs.specs.Mark.{Fits, Misfits, mark_of as mark_of_book};
 ghost use Rattle.std.specs.Prelude.{IfOk, MatchResult, ◌≡◌};
 
 use crate::sum::sum_of;
-use own_book::answer::{Answer, read_answer};
 use own_book::book::Book;
-use own_book::question::Asked;
+use own_rules::looks::name_of;
 use peer_trace::mark::OwnMark;
 use std::alloc::{AllocError, Global};
 use thiserror::Error;
@@ -38,26 +34,6 @@ pub fn mark_of(alloc: Global, book: &Book) -> Result<OwnMark, AllocError>
     let name = Vec::from_slice(alloc, name_of(book))?;
     let sum = Vec::from_slice(alloc, &sum_of(book, book.len()))?;
     Ok(OwnMark::new(name, book.len() as u64, sum))
-}
-
-/// The name that a book's greeting gives the protocol.
-fn name_of(book: &Book) -> &[u8]
-    ensures { result.now ≡ name_of_book book.now }
-{
-    match book.told(b"own 1") {
-        None => b"-",
-        Some((_, answer)) => name_in(answer),
-    }
-}
-
-/// The same, by the answer to the greeting.
-fn name_in(answer: &[u8]) -> &[u8]
-    ensures { result.now ≡ name_greeted (saying Greeting answer.now) }
-{
-    match read_answer(Asked::Greeting, answer) {
-        Some(Answer::Greeting { name, kinds: _ }) => name,
-        _ => b"-",
-    }
 }
 
 /// Whether a book fits the mark of a stored run: it has as many entries at least, and the first of them have that sum. Entries that

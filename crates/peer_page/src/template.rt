@@ -224,6 +224,8 @@ function adopt(o) {
   LETTER = by(o.kinds, 'kind', k => k.letter);
   BITS = by(o.kinds, 'kind', k => k.bits);
   MARK = by(o.marks, 'mark', m => ({ ...m, code: SHOWN.indexOf(m.look) }));
+  // a user's own node marks with any word
+  if (o.own) MARK = new Proxy(MARK, { get: (all, x) => Object.hasOwn(all, x) ? all[x] : { name: x, code: 0 } });
   PHASE = by(o.phases, 'phase', x => x);
   // what reasons of deferring tell of a node, and whether there are any
   THEN = [...new Set([...Object.values(o.waits).join().matchAll(/{node\.(\w+)}/g)].map(x => x[1]))];
@@ -260,6 +262,23 @@ function setMark(n, port, mark) {
   n.marks[port] = mark;
   l.halves = 4 * MARK[nodes[l.a].marks[l.a_port]].code + MARK[nodes[l.b].marks[l.b_port]].code;
 }
+// the variables of a user's own node stand behind a blank; those that any runtime knows are the page's own
+const KNOWN = ['asleep', 'halted', 'marks'];
+function freed(set, stops) {
+  const out = {};
+  for (const x in set) if (!KNOWN.includes(x)) { out[' ' + x] = set[x]; if (!P.variables.some(row => row[0] === ' ' + x)) P.variables.push([' ' + x]); }
+  if ('asleep' in set || stops) out.phase = stops ? 'stopped' : set.asleep === 'yes' ? 'yes' : 'no';
+  if ('halted' in set) out.halted = set.halted === 'yes';
+  return out;
+}
+// each of them opens in its own way
+const openings = [];
+function begin(o) {
+  const n = nodes[o.opens];
+  for (const x in n) if (x[0] === ' ') n[x] = null;
+  Object.assign(n, o.set);
+  o.marks.forEach((m, p) => { if (m !== n.marks[p]) setMark(n, p, m); });
+}
 function read(text) {
   // many lines at once: a page may have a hundred thousand
   for (let from = 0, to; from < text.length; from = to + 1) {
@@ -271,7 +290,7 @@ function read(text) {
 }
 function readLine(o) {
   if (!P && !('ghs' in o || 'protocol' in o)) throw Error('the data tell of no protocol');
-  if ('step' in o) { o.marks ??= o.mark ? [o.mark] : NOTHING; steps.push(o); }
+  if ('step' in o) { o.marks ??= o.mark ? [o.mark] : NOTHING; if (P.own) o.set = freed(o.set, o.row === 'stopped'); steps.push(o); }
   else if ('link' in o) {
     // links come in key order, and so do the ports of a node
     const i = links.push(o) - 1;
@@ -280,7 +299,8 @@ function readLine(o) {
     nodes[o.a].marks.push(P.marks[0].mark);
     nodes[o.b].marks.push(P.marks[0].mark);
     o.halves = 0;
-  } else if ('ledger' in o) ledgerEnd = o;
+  } else if ('opens' in o) { o.set = { phase: 'no', ...freed(o.set, Object.keys(o.set).join() === 'stopped') }; openings.push(o); begin(o); }
+  else if ('ledger' in o) ledgerEnd = o;
   else if ('protocol' in o) adopt(o);
   else if ('ghs' in o) G = o;
 }
@@ -290,10 +310,17 @@ let widths;
 function measure() {
   // the last link has the greatest weight; the highest level is the floor of log2 of the nodes
   const number = width(G.nodes), weight = width(links.length ? links[links.length - 1].weight : 0);
-  widths = { number, weight, level: width(number - 1), key: 2 * number + weight };
+  widths = { number, weight, level: width(number - 1), key: 2 * number + weight, count: width(links.length) };
 }
-const lengthOf = m => BITS[m.kind] + (m.level === undefined ? 0 : widths.level) + (m.key ? widths.key : 0);
-const message = (m, born, from, to, at) => ({ kind: m.kind, level: m.level, key: m.key, phase: m.phase, bits: lengthOf(m), born, from, to, at, takes: NOTHING, backs: 0, done: 0, number: 0 });
+// of a user's own by the types of its values; a comma in brackets parts none
+function ownLength(m) {
+  let depth = 0, sum = width(KINDS.length - 1);
+  const { types } = P.kinds[KIND[m.kind]], list = (m.values ?? '').replace(/&\w+;/g, '.').replace(/[,()[\]{}]/g, c => c === ',' ? depth ? c : '\n' : (depth = Math.max(0, depth + ('([{'.includes(c) ? 1 : -1)), c)).split('\n');
+  if (types) types.split(',').forEach((t, i) => { const x = list[i] ?? ''; sum += t === 'bit' ? 1 : t === 'text' ? 8 * x.length : t === 'key?' ? 1 + (x === '-' ? 0 : widths.key) : t === 'keys' ? widths.count + (x.split(':').length - 1) * widths.key : widths[t === 'node' ? 'number' : t] ?? +t; });
+  return Math.min(sum, 2 ** 32 - 1);
+}
+const lengthOf = m => P.own ? ownLength(m) : BITS[m.kind] + (m.level === undefined ? 0 : widths.level) + (m.key ? widths.key : 0);
+const message = (m, born, from, to, at) => ({ kind: m.kind, level: m.level, key: m.key, phase: m.phase, values: m.values, bits: lengthOf(m), born, from, to, at, takes: NOTHING, backs: 0, done: 0, number: 0 });
 
 // ---- one step on, one step back: every value is one that the step carries; what it replaces is kept
 let at, undo = [];
@@ -330,6 +357,7 @@ function off() {
 function rewind() {
   for (const n of nodes) if (n) { Object.assign(n, P.opening); n.marks.fill(P.marks[0].mark); }
   for (const l of links) l.halves = 0;
+  openings.forEach(begin);
   for (const q of queues.values()) { q.list.length = 0; changed.add(q); }
   for (const u of undo) for (const m of u.sent) m.backs = 0;
   ledger = zero();
@@ -936,7 +964,7 @@ function drawTime() {
 
 // ---- words and tables
 const cap = x => x[0].toUpperCase() + x.slice(1);
-const words = m => { const k = P.kinds[KIND[m.kind]]; return k.name + (k.has.length ? '(' + k.has.map(x => x === 'key' ? m.key ?? k.none[0] : value(x, m[x])).join(', ') + ')' : ''); };
+const words = m => { const k = P.kinds[KIND[m.kind]]; return k.name + (m.values ? '(' + m.values + ')' : k.has.length ? '(' + k.has.map(x => x === 'key' ? m.key ?? k.none[0] : value(x, m[x])).join(', ') + ')' : ''); };
 const value = (x, y) => y === null || y === undefined ? '-' : Array.isArray(y) ? y[0] + ': ' + y[1] : x === 'phase' ? PHASE[y].name : x === 'mark' ? MARK[y].name : y === true ? 'yes' : y === false ? 'no' : String(y);
 const letters = () => '<span>' + KINDS.map(k => LETTER[k] + ' ' + NAMES[k]).join(', ') + '</span>';
 const idle = s => s.fate === 'waits' && !s.marks.length && !s.send.length;
@@ -980,7 +1008,7 @@ function panel(c) {
   if (document.activeElement !== $('goto')) $('goto').value = at;
   live(s);
   if (asking) $('say').innerHTML = question(steps[at]);
-  else if (!s) $('say').innerHTML = '<p class="say">' + 'All nodes sleep, all marks are ' + P.marks[0].name + ', and nothing is on its way.' + '</p>';
+  else if (!s) $('say').innerHTML = '<p class="say">' + (P.own ? 'N' : 'All nodes sleep, all marks are ' + P.marks[0].name + ', and n') + 'othing is on its way.' + '</p>';
   else {
     let h = verdict(s) + '<p class="say">' + opens(s) + '</p>';
     h += '<p><span class="row">' + s.row + '</span>. ' + (P.rows[s.row] || '') + (s.fate === 'waits' ? ' <b class="why">' + reasonOf(u.taken) + '.</b>' : '') + '</p>';

@@ -1,5 +1,5 @@
 -- The figures of a run of any protocol.
-use Rattle.std.specs.Prelude.{◌≡◌, ℕ, ◌<◌, ◌≤◌, ◌^◌, ◌↔◌, true, Bool, List, Option, Some, None, length, slice_index}
+use Rattle.std.specs.Prelude.{◌≡◌, ℕ, ◌<◌, ◌≤◌, ◌^◌, ◌↔◌, true, false, Bool, List, Option, Some, None, length, slice_index}
 use Rattle.ghs_graph.specs.declared.key.Key.{Key}
 use Rattle.ghs_graph.specs.Graph.{Shape}
 use Rattle.ghs_graph.specs.Links.{total_weight}
@@ -33,6 +33,19 @@ module _ {S M : Type 0} (r : Rules S M) where
     pub queued : f.queued ≡ waiting (network_of g) w
     pub bound : f.bound ≡ most
     pub within : f.sent ≤ f.bound
+
+  -- what is counted of the net after some events, and how long the run of these events is
+  pub record AreCounts (bound : Shape → ℕ) (g : Shape) (es : List Event) (f : Figures) : Type 0 where
+    pub nodes : f.nodes ≡ g.nodes
+    pub links : f.links ≡ length g.keys
+    pub events : f.events ≡ length es
+    pub messages : AreMessages (bound g) g (net_after r g es) f
+    pub level : f.level ≡ None
+    pub fragments : f.fragments ≡ None
+    pub weight : f.weight ≡ None
+    pub ended : f.ended ≡ false
+    pub lengths : AreLengths r g es f.lengths
+    pub room : LeavesRoom f
 
   -- the weight of the links that are marked as branches
   pub record IsWeight (is_branch : S → ℕ → Bool) (g : Shape) (w : Net S M) (weight : Option ℕ) : Type 0 where

@@ -1,5 +1,5 @@
 -- A seed's run by any protocol, and its figures.
-use Rattle.std.specs.Prelude.{◌⊎◌, ℕ, Bool, true, false, List}
+use Rattle.std.specs.Prelude.{◌⊎◌, ℕ, Bool, true, false, length, List, [], slice_index_or}
 use Rattle.ghs_graph.specs.Graph.{Shape}
 use Rattle.peer_network.specs.declared.event.Event.{Event}
 use Rattle.peer_machine.specs.Net.{Net}
@@ -17,6 +17,10 @@ use Rattle.peer_sweep.specs.Figures.{AreFigures}
 abbrev pub is_bound : Measure → Bool
 is_bound Bound = true
 is_bound m = false
+
+-- what is told of a protocol of this name, whose kinds of messages have these names
+abbrev pub about_words : List ℕ → List (List ℕ) → About
+about_words name kinds = record { name = name; kinds = length kinds; kind = λ k. slice_index_or kinds k []; is_fixed = is_bound }
 
 module _ {S M : Type 0} (r : Rules S M) where
   -- what is told of a protocol with these words

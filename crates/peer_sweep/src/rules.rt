@@ -1,6 +1,6 @@
 //! Runs of any protocol that finds a tree, has words and whose messages have lengths.
 ghost use Rattle.peer_lengths.specs.Lengths.{AreLengths};
-ghost use Rattle.peer_sweep.specs.Figures.{AreFigures};
+ghost use Rattle.peer_sweep.specs.Figures.{AreCounts, AreFigures};
 ghost use Rattle.peer_sweep.specs.Runs.{AreFiguresOf, is_bound};
 ghost use Rattle.std.specs.Prelude.{◌≡◌, ◌<◌, IfOk, length, slice_index};
 
@@ -66,7 +66,7 @@ impl<P: FindsTree + FixedWords + Measured> Swept for ByRules<P> {
 }
 
 /// Whether a measure is the bound.
-fn is_bound(measure: Measure) -> bool
+pub(crate) fn is_bound(measure: Measure) -> bool
     ensures { result ≡ is_bound measure }
 {
     match measure {
@@ -113,13 +113,30 @@ pub fn figures_of<P: FindsTree + Measured>(
     requires { AreLengths P.rules net.now.graph net.now.trace lengths }
     ensures { IfOk result (λ f. AreFigures P.rules P.bound P.is_branch P.has_ended net.now.graph net.now.trace f) }
 {
+    let tree = branches(alloc, net)?;
+    let mut figures = counts_of(net, lengths);
+    figures.weight = Some(total_weight(&tree));
+    figures.ended = net_ended(net);
+    Ok(figures)
+}
+
+/// What is counted of a net whose run has these lengths, by any protocol: the figures without levels, fragments, weight and
+/// end.
+///
+/// ```text
+/// let counts = counts_of(world.net(), meter.lengths()?);
+/// // counts.weight is None, and counts.ended false, whatever the protocol
+/// ```
+pub fn counts_of<P: Measured>(net: &Net<P>, lengths: Lengths) -> Figures
+    requires { AreLengths P.rules net.now.graph net.now.trace lengths }
+    ensures { AreCounts P.rules P.bound net.now.graph net.now.trace result }
+{
     law_bits::<P::Node, P::Message>();
     let graph = net.graph();
-    let tree = branches(alloc, net)?;
     let most = P::bound_of(net.setting(), graph);
     let ledger = net.ledger();
     let total = in_total(ledger.sent) as u64;
-    Ok(Figures {
+    Figures {
         nodes: graph.nodes(),
         links: graph.links(),
         events: net.trace().len() as u64,
@@ -130,10 +147,10 @@ pub fn figures_of<P: FindsTree + Measured>(
         bound: most,
         level: None,
         fragments: None,
-        weight: Some(total_weight(&tree)),
-        ended: net_ended(net),
+        weight: None,
+        ended: false,
         lengths,
-    })
+    }
 }
 
 /// The first eight of some counts; 0, where there are fewer.

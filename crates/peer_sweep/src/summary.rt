@@ -156,7 +156,7 @@ fn put_measure_members(
 }
 
 /// The name of a column's measure: that of the column, but what a line says of the run's end is counted here.
-fn name_of(column: &Column) -> &'static [u8]
+fn name_of<'w>(column: &Column<'w>) -> &'w [u8]
     ensures { result.now ≡ name_of column.now }
 {
     match column.measure {

@@ -1,5 +1,5 @@
 use Rattle.std.proofs.Common.{rules}
-use Rattle.ghs_cli.proofs.Stepped.{any_told, any_untold}
+use Rattle.ghs_answers.proofs.lemmas.Told.{any_told, any_untold}
 use Rattle.ghs_cli.proofs.any_run.told.Goals as goal
 
 pub returns-in_err-write_steps-clause-told : goal.returns-in_err-write_steps-clause-told

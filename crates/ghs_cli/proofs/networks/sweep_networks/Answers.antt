@@ -1,5 +1,5 @@
 use Rattle.std.proofs.Common.{◌≡◌, Err, rules}
-use Rattle.ghs_cli.specs.declared.fault.ServeFault.TheVariants as serve
+use Rattle.ghs_answers.specs.declared.fault.ServeFault.TheVariants as serve
 use Rattle.ghs_cli.proofs.Named.{swept_all, swept_none, swept_part}
 use Rattle.ghs_cli.proofs.networks.sweep_networks.Goals as goal
 

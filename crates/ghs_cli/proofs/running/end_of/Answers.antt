@@ -1,5 +1,5 @@
 use Rattle.ghs_cli.proofs.Runs.{stops_for, whole_threads}
-use Rattle.ghs_cli.specs.declared.fault.ServeFault.TheVariants as serve
+use Rattle.ghs_answers.specs.declared.fault.ServeFault.TheVariants as serve
 use Rattle.ghs_cli.proofs.running.end_of.Goals as goal
 
 pub returns-in-Ok-clause-whole : goal.returns-in-Ok-clause-whole

@@ -1,7 +1,7 @@
 use Rattle.std.proofs.Common.{◌∙◌, ap, length}
 use Rattle.ghs_core.specs.NetState.{NetState}
 use Rattle.ghs_cli.proofs.Runs.{stopped_threads, stops_at_limit, stops_for}
-use Rattle.ghs_cli.specs.declared.fault.ServeFault.TheVariants as serve
+use Rattle.ghs_answers.specs.declared.fault.ServeFault.TheVariants as serve
 use Rattle.ghs_cli.proofs.running.limit_of.Goals as goal
 
 pub returns : goal.returns

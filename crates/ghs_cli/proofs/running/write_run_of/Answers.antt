@@ -1,11 +1,12 @@
 use Rattle.std.proofs.Common.{◌≡◌, ◌∙◌, Err, Ok, rules, subst, sym}
 use Rattle.std.specs.Prelude.{Bool, IfSome, true}
 use Rattle.ghs_commands.specs.declared.job.Task.TheVariants as task
-use Rattle.ghs_cli.specs.declared.fault.ServeFault.TheVariants as serve
+use Rattle.ghs_answers.specs.declared.fault.ServeFault.TheVariants as serve
 use Rattle.ghs_cli.specs.Serving.{IsOfText, IsTextCause}
 use Rattle.ghs_cli.specs.Verbs.{verbs_of}
 use Rattle.ghs_cli.proofs.Ending.{either_way, ends_behind, ends_by, ends_else, goes_on, limit_cause}
-use Rattle.ghs_cli.proofs.Serves.{if_some, serves_all, serves_fault, serves_limit, serves_part}
+use Rattle.ghs_answers.proofs.lemmas.Known.{if_some}
+use Rattle.ghs_cli.proofs.Serves.{serves_all, serves_fault, serves_limit, serves_part}
 use Rattle.ghs_cli.proofs.running.write_run_of.Goals as goal
 
 pub returns-in_err-output-clause-serves : goal.returns-in_err-output-clause-serves

@@ -2,12 +2,13 @@ use Rattle.std.proofs.Common.{◌≡◌, List, ℕ, Option, Vec, Global, refl, s
 use Rattle.std.specs.Prelude.{IfOk, IfSome, Result}
 use Rattle.peer_trace.specs.declared.protocol.Protocol.{Protocol}
 use Rattle.ghs_commands.specs.declared.job.SweepOptions.{SweepOptions}
-use Rattle.ghs_cli.specs.declared.fault.ServeFault.{ServeFault}
+use Rattle.ghs_answers.specs.declared.fault.ServeFault.{ServeFault}
 use Rattle.ghs_cli.specs.Charts.{IsSweepText}
 use Rattle.ghs_commands.specs.declared.job.Task.TheVariants as task
 use Rattle.ghs_cli.specs.Serving.{IsOfText, Serves}
 use Rattle.ghs_cli.proofs.Ending.{ends_as, ends_other}
-use Rattle.ghs_cli.proofs.Serves.{for_some, serves_as, serves_stored, serves_unread, unread_as, unread_by, unwritten_as, unwritten_but_for_write}
+use Rattle.ghs_answers.proofs.lemmas.Known.{for_some}
+use Rattle.ghs_cli.proofs.Serves.{serves_as, serves_stored, serves_unread, unread_as, unread_by, unwritten_as, unwritten_but_for_write}
 use Rattle.ghs_cli.proofs.serve.serve.Goals as goal
 
 -- what is printed of these protocols, which a list lends

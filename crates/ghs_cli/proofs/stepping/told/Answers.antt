@@ -1,11 +1,12 @@
 use Rattle.std.proofs.Common.{rules}
-use Rattle.ghs_cli.proofs.Stepped.{ghs_told, ghs_untold}
+use Rattle.ghs_answers.proofs.lemmas.Told.{untold_as}
+use Rattle.ghs_cli.proofs.Stepped.{ghs_cant_tell, ghs_told}
 use Rattle.ghs_cli.proofs.stepping.told.Goals as goal
 
 pub returns-in_err-write_steps-clause-told : goal.returns-in_err-write_steps-clause-told
 returns-in_err-write_steps-clause-told g c =
-    ghs_untold c.args.options.now c.args.graph c.args.events.now _ _ c.from_residual.result c.in_err-write_steps.field-0.0 (search rules)
-    c.in_err-write_steps.ensures.err
+    untold_as _ _ _ _ _ (ghs_cant_tell c.args.options.now c.args.graph c.args.events.now _ _) c.from_residual.result
+    c.in_err-write_steps.field-0.0 (search rules) c.in_err-write_steps.ensures.err
 
 pub returns-clause-told : goal.returns-clause-told
 returns-clause-told g c =

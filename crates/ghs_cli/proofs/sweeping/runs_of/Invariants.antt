@@ -1,5 +1,6 @@
 use Rattle.std.proofs.Common.{◌≡◌, ◌+◌, length}
-use Rattle.ghs_cli.specs.Swept.{AreRunsBy, setup_of}
+use Rattle.ghs_answers.specs.Sheets.{setup_of}
+use Rattle.ghs_cli.specs.Swept.{AreRunsBy}
 use Rattle.ghs_cli.proofs.sweeping.runs_of.Given as goal
 
 abbrev pub invariant-loop-left : goal.invariant-loop-left

@@ -7,7 +7,7 @@ use Rattle.peer_sweep.proofs.table.push_fragments.Goals as goal
 pub returns : goal.returns
 unfolding fragment_columns
 returns g c =
-    let p = g.P.Swept.about in
+    let p = g.T.Teller.about c.args.teller.now in
     let old = c.args.columns.now.items in
     let level = column p (codes "level") Level ∷ [] in
     let fragments = column p (codes "fragments") Fragments ∷ [] in

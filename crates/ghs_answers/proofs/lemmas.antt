@@ -1,0 +1,3 @@
+-- Lemmas that the crates above may cite.
+pub mod Known
+pub mod Told

@@ -1,0 +1,8 @@
+use Rattle.ghs_answers.proofs.Sheeting.{runs_behind}
+use Rattle.ghs_answers.proofs.sheets.put_lines.Goals as goal
+
+pub returns : goal.returns
+returns c =
+    runs_behind c.args.options.now c.args.front.now c.args.table.now c.args.setup c.args.runs.now c.args.text.now.items
+    c.put_runs.new.text.items c.requires.sheet
+    c.in_ok-put_runs.ensures

@@ -1,0 +1,6 @@
+-- Serves the proofs: nothing here has to be believed.
+mod Exploring
+mod Misfitting
+mod Running
+mod Sweeping
+mod Viewing

@@ -1,0 +1,5 @@
+use Rattle.own_rules.specs.Proved.{runs_are_few}
+use Rattle.own_runs.proofs.lengths.time_by_book.Given as goal
+
+abbrev pub ghosts-time_by : goal.ghosts-time_by
+ghosts-time_by a = record { book = a.rules.now; most = 1048576; few = runs_are_few }
