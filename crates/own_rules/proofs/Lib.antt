@@ -2,6 +2,7 @@
 mod Numbering
 mod Placing
 mod Paying
+mod Readying
 pub mod Stopping
 pub mod Running
 pub mod Valued

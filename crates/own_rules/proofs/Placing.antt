@@ -30,7 +30,7 @@ pub lookup_is : (l : Lookup) (es : List (Lookup × ℕ)) → lookup (eq-value.it
 lookup_is l [] = refl
 lookup_is l (e ∷ es) = ap₂ (λ b o. cond b (Some e.1) o) (eq_is l e.0) (lookup_is l es)
 
-same_is : (a b : Lookup) → same_lookup a b ≡ true → a ≡ b
+pub same_is : (a b : Lookup) → same_lookup a b ≡ true → a ≡ b
 same_is (Wake v s) (Wake w t) h =
     let both = and_parts (v == w) (s == t) h in
     ap₂ (λ x y. Wake x y) (eqb-true v w both.0) (eqb-true s t both.1)

@@ -1,5 +1,5 @@
 -- Worked examples of a book's words, and of what a page is told, computed from the definitions.
-use Rattle.std.specs.Prelude.{ℕ, ◌≡◌, false, true, List, [], ◌∷◌, codes, refl, None}
+use Rattle.std.specs.Prelude.{◌≡◌, false, true, List, [], ◌∷◌, codes, refl, None}
 use Rattle.own_book.specs.Entry.{Entry, entry}
 use Rattle.own_rules.specs.Deed.{goes_on, stops}
 use Rattle.own_rules.specs.Looks.{kind_look, letter_of, look_of, title_of, titled}

@@ -1,10 +1,10 @@
 -- The questions that a book lacks in several runs, each once.
-use Rattle.std.specs.Prelude.{ℕ, codes, fold, ◌++◌, List, [], ◌∷◌, Option}
+use Rattle.std.specs.Prelude.{ℕ, codes, ◌++◌, List, [], ◌∷◌, Option}
 use Rattle.std.specs.List.{flat_map}
 use Rattle.ghs_graph.specs.Graph.{Shape}
 use Rattle.own_book.specs.Entry.{Entry, told_in}
 use Rattle.own_rules.specs.Stops.{greeting_line, question_of}
-use Rattle.own_rules.specs.Texts.{Text, noted}
+use Rattle.own_rules.specs.Texts.{Text}
 use Rattle.own_rules.specs.declared.node.Lookup.{Lookup}
 use Rattle.own_rules.specs.declared.node.Reason.{Reason}
 use Rattle.own_rules.specs.declared.node.Reason.TheVariants.{Unanswered, Fails, Spent}

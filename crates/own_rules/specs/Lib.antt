@@ -6,6 +6,7 @@ pub mod Bits
 pub mod Rules
 pub mod Stops
 pub mod Done
+pub mod Ready
 pub mod Places
 pub mod Proved
 pub mod Laws

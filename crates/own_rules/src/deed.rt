@@ -54,7 +54,12 @@ pub(crate) fn done_by_answer<'a>(
 }
 
 /// Why a reaction is none of a node, if so.
-fn reaction_fault(kinds: &[u8], ports: u32, after: &[u8], sends: &[u8]) -> Option<AnswerFault>
+pub(crate) fn reaction_fault(
+    kinds: &[u8],
+    ports: u32,
+    after: &[u8],
+    sends: &[u8],
+) -> Option<AnswerFault>
     requires kinds { are_kinds kinds.now ≡ true }
     requires sends { are_sends sends.now ≡ true }
     ensures { result ≡ fault_of_reaction kinds.now ports after.now (sends_in sends.now) }
@@ -83,7 +88,7 @@ fn paid<'a>(left: u32, after: &'a [u8], waits: bool, sends: &'a [u8]) -> Done<'a
 }
 
 /// How many messages a node may send and defer once it has sent these, and deferred one or not; none where that were too many.
-fn left_then(left: u32, waits: bool, sends: &[u8]) -> Option<u32>
+pub(crate) fn left_then(left: u32, waits: bool, sends: &[u8]) -> Option<u32>
     requires { are_sends sends.now ≡ true }
     ensures { result ≡ left_then left (cost waits (sends_in sends.now)) }
 {

@@ -32,6 +32,7 @@ pub mod looks;
 pub mod node;
 mod places;
 pub mod protocol;
+mod ready;
 pub mod rulebook;
 pub mod run;
 mod spoken;

@@ -2,8 +2,8 @@
 ghost use Rattle.own_book.specs.Entry.{Entry};
 ghost use Rattle.own_book.specs.Query.{asked_by};
 ghost use Rattle.own_rules.specs.Places.{ArePlaces, first_at, place_in};
-ghost use Rattle.own_rules.specs.Questions.{lookup_by, lookup_of as lookup_of_entry};
-ghost use Rattle.own_rules.specs.declared.node.Lookup.{Lookup as Asked};
+ghost use Rattle.own_rules.specs.Questions.{asked_for as asks_for, lookup_by, lookup_of as lookup_of_entry};
+ghost use Rattle.own_rules.specs.declared.node.Lookup.{Lookup as AnyLookup};
 ghost use Rattle.std.specs.Option.{option_map};
 ghost use Rattle.std.specs.Prelude.{IfOk, OnOk, [], length, slice_get, take, ◌+◌, ◌<◌, ◌≡◌};
 
@@ -11,7 +11,7 @@ use crate::node::Lookup;
 use crate::texts::Texts;
 use indexmap::IndexMap;
 use own_book::book::Book;
-use own_book::question::{Query, read_query};
+use own_book::question::{Asked, Query, read_query};
 use std::alloc::{AllocError, Global};
 use std::marker::Model;
 
@@ -52,7 +52,7 @@ impl Places {
 
     /// Gives a lookup a place, where it has none.
     fn note(&mut self, lookup: Lookup, place: usize) -> Result<(), AllocError>
-        ensures { OnOk result ((l : Asked) → place_in self.new l ≡ first_at self.old lookup place l) }
+        ensures { OnOk result ((l : AnyLookup) → place_in self.new l ≡ first_at self.old lookup place l) }
     {
         if self.place(lookup).is_some() {
             return Ok(());
@@ -70,6 +70,21 @@ impl Places {
             Some(lookup) => self.note(lookup, index),
             None => Ok(()),
         }
+    }
+}
+
+/// What the question of a lookup asks for.
+pub(crate) fn asked_for(lookup: Lookup) -> Asked
+    ensures { result ≡ asks_for lookup }
+{
+    match lookup {
+        Lookup::Wake { node: _, state: _ } => Asked::Wake,
+        Lookup::Take {
+            node: _,
+            port: _,
+            message: _,
+            state: _,
+        } => Asked::Take,
     }
 }
 
@@ -101,7 +116,7 @@ fn lookup_of(texts: &Texts, query: Option<Query>) -> Option<Lookup>
 }
 
 /// The lookup of the entry at this place.
-fn lookup_at(texts: &Texts, book: &Book, index: usize) -> Option<Lookup>
+pub(crate) fn lookup_at(texts: &Texts, book: &Book, index: usize) -> Option<Lookup>
     ensures { (e : Entry) → slice_get book.now index ≡ Some e → result ≡ lookup_of_entry texts.now e }
 {
     let (question, _) = book.entry(index)?;

@@ -1,8 +1,10 @@
 //! The rules of a book as a protocol.
+ghost use Rattle.own_rules.specs.Deed.{deed_of};
 ghost use Rattle.own_rules.specs.Done.{AreSends, done_by};
 ghost use Rattle.own_rules.specs.Rules.{lookup_at as lookup_of_work, sends_by, state_by, waits_by};
 ghost use Rattle.own_rules.specs.Texts.{texts_of};
-ghost use Rattle.std.specs.Prelude.{IfOk, ◌≡◌};
+ghost use Rattle.own_rules.specs.declared.node.State.TheVariants.{Runs};
+ghost use Rattle.std.specs.Prelude.{IfOk, false, ◌≡◌};
 
 use crate::deed::Done;
 use crate::node::{Lookup, Message, Node, State, Stop};
@@ -116,12 +118,7 @@ impl<'a, J: Chosen> Protocol for Told<'a, J> {
                 left,
             } => {
                 let lookup = lookup_at(node.number, text, work);
-                done(
-                    alloc,
-                    set.rules,
-                    lookup,
-                    set.rules.done(node.ports, left, lookup),
-                )
+                reacted(alloc, set.rules, node.ports, left, lookup)
             }
             State::Stopped(stop) => Ok(Answer {
                 change: State::Stopped(stop),
@@ -146,8 +143,10 @@ impl<'a, J: Chosen> Protocol for Told<'a, J> {
                     left,
                 },
             ) => waits(
-                set.rules
-                    .done(node.ports, left, lookup_at(node.number, text, work)),
+                set.rules,
+                node.ports,
+                left,
+                lookup_at(node.number, text, work),
             ),
             _ => false,
         }
@@ -195,8 +194,18 @@ pub(crate) fn lookup_at(node: u32, state: usize, work: Work<Message>) -> Lookup
     }
 }
 
-/// Whether a node defers the message.
-fn waits(done: Done) -> bool
+/// Whether a node of so many ports defers the message, if it may still send and defer so many.
+fn waits(rules: &Rulebook, ports: u32, left: u32, lookup: Lookup) -> bool
+    ensures { result ≡ waits_by (deed_of rules.now ports left lookup) }
+{
+    match rules.ready(ports, left, lookup) {
+        Some(ready) => ready.waits,
+        None => waits_so(rules.done(ports, left, lookup)),
+    }
+}
+
+/// The same by what it does.
+fn waits_so(done: Done) -> bool
     ensures { result ≡ waits_by (done_by done.entry) }
 {
     match done {
@@ -207,6 +216,26 @@ fn waits(done: Done) -> bool
             left: _,
         } => waits,
         Done::Stops(_) => false,
+    }
+}
+
+/// What a node of so many ports does, if it may still send and defer so many messages: as it is ready, else by the answer's
+/// text. Refusal: out of memory.
+fn reacted(
+    alloc: Global,
+    rules: &Rulebook,
+    ports: u32,
+    left: u32,
+    lookup: Lookup,
+) -> Result<Answer<State, Message>, AllocError>
+    ensures { IfOk result (λ a. (a.change ≡ state_by (texts_of rules.now) lookup (deed_of rules.now ports left lookup)) × (a.sends.items ≡ sends_by (texts_of rules.now) (deed_of rules.now ports left lookup))) }
+{
+    match rules.ready(ports, left, lookup) {
+        Some(ready) => Ok(Answer {
+            change: awake(ready.after, left - ready.cost),
+            sends: Vec::from_slice(alloc, &ready.sends)?,
+        }),
+        None => done(alloc, rules, lookup, rules.done(ports, left, lookup)),
     }
 }
 
@@ -227,11 +256,7 @@ fn done(
             sends,
             left,
         } => Ok(Answer {
-            change: State::Runs {
-                text: rules.number(after),
-                asleep: false,
-                left,
-            },
+            change: awake(rules.number(after), left),
             sends: rules.numbered(alloc, sends)?,
         }),
         Done::Stops(reason) => Ok(Answer {
@@ -241,5 +266,16 @@ fn done(
             }),
             sends: Vec::new(alloc),
         }),
+    }
+}
+
+/// The state of a node that goes on, by the number of its text; it may then send and defer so many messages.
+fn awake(text: usize, left: u32) -> State
+    ensures { result ≡ Runs text false left }
+{
+    State::Runs {
+        text,
+        asleep: false,
+        left,
     }
 }

@@ -8,7 +8,8 @@ ghost use Rattle.own_rules.specs.Deed.{deed_of};
 ghost use Rattle.own_rules.specs.Done.{AreSends, done_by};
 ghost use Rattle.own_book.specs.Asking.{open_text};
 ghost use Rattle.own_rules.specs.Looks.{kind_look as look_of_kind, title_of as title_of_book};
-ghost use Rattle.own_rules.specs.Questions.{answer_at, asked_for as asks_for};
+ghost use Rattle.own_rules.specs.Questions.{answer_at};
+ghost use Rattle.own_rules.specs.Ready.{Does};
 ghost use Rattle.own_rules.specs.Rules.{numbered, opened, opened_by, stopped as stopped_at};
 ghost use Rattle.own_rules.specs.Texts.{kind_among, kinds_many, kinds_of, names_of as kinds_named, number_in, text_at, texts_of as texts_of_book};
 ghost use Rattle.own_rules.specs.Words.{kind_name as kind_called};
@@ -17,7 +18,8 @@ ghost use Rattle.std.specs.Prelude.{IfNone, IfOk, IfSome, None, Some, codes, tru
 use crate::deed::{Done, done_by_answer};
 use crate::looks::{Looks, looks_of, title_of};
 use crate::node::{Lookup, Message, Reason, State, Stop};
-use crate::places::{Places, places_of};
+use crate::places::{Places, asked_for, places_of};
+use crate::ready::{Ready, ready_of};
 use crate::texts::{Texts, names_of, texts_of};
 use ghs_graph::port::Port;
 use own_book::answer::{Answer, next_sent, read_answer};
@@ -41,6 +43,8 @@ pub struct Rulebook {
     names: Texts,
     texts: Texts,
     places: Places,
+    /// What each answer does, where it is ready.
+    ready: Vec<Option<Ready>>,
     /// The title of its pages, and what these are told of each kind.
     title: Vec<u8>,
     looks: Looks,
@@ -55,7 +59,7 @@ impl Model for Rulebook {
 
     ghost view = { λ r. r.book };
 
-    ghost invariant = { λ r. IsIndexed r.book r.kinds.items r.names r.texts r.places r.title.items r.looks };
+    ghost invariant = { λ r. IsIndexed r.book r.kinds.items r.names r.texts r.places r.title.items r.looks r.ready.items };
 }
 
 impl Rulebook {
@@ -72,6 +76,7 @@ impl Rulebook {
         let places = places_of(alloc, &book, &texts)?;
         let kinds = greeted_kinds(alloc, &book)?;
         let names = names_of(alloc, &kinds)?;
+        let ready = ready_of(alloc, &kinds, &texts, &book)?;
         let title = title_of(alloc, &book)?;
         let looks = looks_of(alloc, &kinds, &names)?;
         Ok(Rulebook {
@@ -80,6 +85,7 @@ impl Rulebook {
             names,
             texts,
             places,
+            ready,
             title,
             looks,
         })
@@ -126,6 +132,19 @@ impl Rulebook {
         }
     }
 
+    /// What a node of so many ports does by the book, if it may still send and defer so many messages: where that is ready.
+    pub(crate) fn ready(&self, ports: u32, left: u32, lookup: Lookup) -> Option<&Ready>
+        ensures { IfSome result (λ it. Does (texts_of_book self.now) it.now left (deed_of self.now ports left lookup)) }
+    {
+        let place = self.places.place(lookup)?;
+        let it = self.ready.get(place)?.as_ref()?;
+        if it.ports <= ports && it.cost <= left {
+            Some(it)
+        } else {
+            None
+        }
+    }
+
     /// The number of the text of a state.
     pub(crate) fn number(&self, text: &[u8]) -> usize
         ensures { result ≡ number_in (texts_of_book self.now) text.now }
@@ -142,14 +161,7 @@ impl Rulebook {
         requires { are_sends sends.now ≡ true }
         ensures { IfOk result (λ list. list.items ≡ numbered (texts_of_book self.now) (sends_in sends.now)) }
     {
-        let mut list = Vec::new(alloc);
-        let mut rest = sends;
-        'sends: while let Some((sent, after)) = next_sent(rest) {
-            let text = self.texts.number(sent.message);
-            list.push((sent.port, Message { text }))?;
-            rest = after;
-        }
-        Ok(list)
+        self.texts.numbered(alloc, sends)
     }
 
     /// How far a node comes by its opening, which may then send and defer `most` messages. Refusal: out of memory.
@@ -263,21 +275,6 @@ fn stopped(reason: Reason) -> State
         asked: None,
         reason,
     })
-}
-
-/// What the question of a lookup asks for.
-fn asked_for(lookup: Lookup) -> Asked
-    ensures { result ≡ asks_for lookup }
-{
-    match lookup {
-        Lookup::Wake { node: _, state: _ } => Asked::Wake,
-        Lookup::Take {
-            node: _,
-            port: _,
-            message: _,
-            state: _,
-        } => Asked::Take,
-    }
 }
 
 /// The kinds of messages that the greeting of a book names; none where it has no greeting.

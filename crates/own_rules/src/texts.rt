@@ -2,10 +2,12 @@
 ghost use Rattle.own_book.specs.Answer.{IsReadable, are_kinds, are_sends, said_by, sends_in};
 ghost use Rattle.own_book.specs.Entry.{Entry};
 ghost use Rattle.own_book.specs.Question.{asked};
+ghost use Rattle.own_rules.specs.Rules.{numbered};
 ghost use Rattle.own_rules.specs.Texts.{messages_of, names_of, noted, number_in, said_to, text_at, texts_in, texts_of, texts_said};
 ghost use Rattle.std.specs.Prelude.{IfOk, OnOk, Some, [], fold, length, position, slice_get, true, ◌≡◌};
 ghost use Rattle.std.specs.Str.{bytes_eq};
 
+use crate::node::Message;
 use indexmap::IndexSet;
 use own_book::answer::{Answer, next_sent, read_answer};
 use own_book::book::Book;
@@ -70,6 +72,25 @@ impl Texts {
             Some(text) => text.as_slice(),
             None => b"",
         }
+    }
+
+    /// What is sent, by numbers. Refusal: out of memory.
+    pub(crate) fn numbered(
+        &self,
+        alloc: Global,
+        sends: &[u8],
+    ) -> Result<Vec<(u32, Message)>, AllocError>
+        requires { are_sends sends.now ≡ true }
+        ensures { IfOk result (λ list. list.items ≡ numbered self.now (sends_in sends.now)) }
+    {
+        let mut list = Vec::new(alloc);
+        let mut rest = sends;
+        'sends: while let Some((sent, after)) = next_sent(rest) {
+            let text = self.number(sent.message);
+            list.push((sent.port, Message { text }))?;
+            rest = after;
+        }
+        Ok(list)
     }
 
     /// Puts a text behind the others, where it isn't there.
