@@ -26,7 +26,8 @@ _ghs() {
         steps,--node) : && return ;;
         judge,--book) : && return ;;
         judge,--wake) COMPREPLY=($(compgen -W 'all first' -- "$word")) && return ;;
-        sweep,--protocol) COMPREPLY=($(compgen -W 'ghs boruvka echo' -- "$word")) && return ;;
+        sweep,--protocol) COMPREPLY=($(compgen -W 'ghs boruvka echo own' -- "$word")) && return ;;
+        sweep,--book) : && return ;;
         sweep,--seeds) : && return ;;
         sweep,--schedule) COMPREPLY=($(compgen -W 'seeded patient rounds waits lifo round-robin' -- "$word")) && return ;;
         sweep,--workers) : && return ;;
@@ -34,7 +35,8 @@ _ghs() {
         sweep,--turns) : && return ;;
         sweep,--print) COMPREPLY=($(compgen -W 'runs summary chart' -- "$word")) && return ;;
         sweep,--by) COMPREPLY=($(compgen -W 'node level rule' -- "$word")) && return ;;
-        view,--protocol) COMPREPLY=($(compgen -W 'ghs boruvka echo' -- "$word")) && return ;;
+        view,--protocol) COMPREPLY=($(compgen -W 'ghs boruvka echo own' -- "$word")) && return ;;
+        view,--book) : && return ;;
         view,--seed) : && return ;;
         view,--seeds) : && return ;;
         view,--schedule) COMPREPLY=($(compgen -W 'seeded patient rounds waits lifo round-robin' -- "$word")) && return ;;
@@ -46,7 +48,7 @@ _ghs() {
         make,--seed) : && return ;;
         make,--links) : && return ;;
         make,--weights) COMPREPLY=($(compgen -W 'random rising falling equal' -- "$word")) && return ;;
-        explore,--protocol) COMPREPLY=($(compgen -W 'ghs boruvka echo' -- "$word")) && return ;;
+        explore,--protocol) COMPREPLY=($(compgen -W 'ghs boruvka echo own' -- "$word")) && return ;;
         explore,--book) : && return ;;
         explore,--wake) COMPREPLY=($(compgen -W 'all first' -- "$word")) && return ;;
         explore,--limit) : && return ;;
@@ -60,8 +62,8 @@ _ghs() {
         replay) [[ $word == -* ]] && COMPREPLY=($(compgen -W '--protocol --book --wake -h --help' -- "$word")) ;;
         steps) [[ $word == -* ]] && COMPREPLY=($(compgen -W '--protocol --book --wake --from --to --node --json -h --help' -- "$word")) ;;
         judge) [[ $word == -* ]] && COMPREPLY=($(compgen -W '--book --wake -h --help' -- "$word")) ;;
-        sweep) [[ $word == -* ]] && COMPREPLY=($(compgen -W '--protocol --seeds --schedule --workers --wake --turns --print --by --names --json --progress -h --help' -- "$word")) ;;
-        view) [[ $word == -* ]] && COMPREPLY=($(compgen -W '--protocol --seed --seeds --schedule --wake --turns --trace --from --to -h --help' -- "$word")) ;;
+        sweep) [[ $word == -* ]] && COMPREPLY=($(compgen -W '--protocol --book --seeds --schedule --workers --wake --turns --print --by --names --json --progress -h --help' -- "$word")) ;;
+        view) [[ $word == -* ]] && COMPREPLY=($(compgen -W '--protocol --book --seed --seeds --schedule --wake --turns --trace --from --to -h --help' -- "$word")) ;;
         make) [[ $word == -* ]] && COMPREPLY=($(compgen -W '--seed --links --weights -h --help' -- "$word"))
             [[ $word == -* ]] || { [ "$COMP_CWORD" -eq 2 ] && COMPREPLY=($(compgen -W 'path ring star grid complete tree random road forest slow busy farcore chainwake' -- "$word")); return; } ;;
         explore) [[ $word == -* ]] && COMPREPLY=($(compgen -W '--protocol --book --wake --limit --print --end --progress -h --help' -- "$word")) ;;

@@ -305,10 +305,7 @@ fn sweep_own<R: Runtime + AllocGlobal>(
     ensures { IsStatusOfJob result }
 {
     match own_rules_of(rt, alloc, job) {
-        Ok(rules) => match swept_own(rt, alloc, options, job, &rules) {
-            Ok(end) => end.status(),
-            Err(cause) => tell(rt, &cause),
-        },
+        Ok(rules) => finish_own(rt, swept_own(rt, alloc, options, job, &rules)),
         Err(status) => status,
     }
 }
@@ -334,10 +331,7 @@ fn view_own<R: Runtime + AllocGlobal>(rt: &R, alloc: Global, options: &ViewOptio
     ensures { IsStatusOfJob result }
 {
     match own_rules_of(rt, alloc, job) {
-        Ok(rules) => match viewed_own(rt, alloc, options, job, &rules) {
-            Ok(end) => end.status(),
-            Err(cause) => tell(rt, &cause),
-        },
+        Ok(rules) => finish_own(rt, viewed_own(rt, alloc, options, job, &rules)),
         Err(status) => status,
     }
 }
@@ -398,10 +392,7 @@ fn explore_own<R: Runtime + AllocGlobal>(
     ensures { IsStatusOfJob result }
 {
     match book_of(rt, alloc, job.book.as_ref()) {
-        Ok(book) => match explored_own(rt, alloc, options, job, book) {
-            Ok(end) => end.status(),
-            Err(cause) => tell(rt, &cause),
-        },
+        Ok(book) => finish_own(rt, explored_own(rt, alloc, options, job, book)),
         Err(cause) => tell_cause(rt, &cause),
     }
 }
@@ -689,6 +680,16 @@ fn finish<R: Runtime>(rt: &R, result_of_job: Result<(), ServeFault>) -> u8
     match result_of_job {
         Ok(()) => 0,
         Err(fault) => tell(rt, &fault),
+    }
+}
+
+/// The exit status of runs by a book, once they have come to this.
+fn finish_own<R: Runtime>(rt: &R, end: Result<OwnEnd, ServeFault>) -> u8
+    ensures { IsStatusOfJob result }
+{
+    match end {
+        Ok(end) => end.status(),
+        Err(cause) => tell(rt, &cause),
     }
 }
 

@@ -115,7 +115,7 @@ deed_ready book all l i ports left r are p here wide rich =
     (are i it.0 r it.1 here l it.2 ports left wide rich)
 
 -- what is ready of an answer is ready of the entry that says it
-pub entry_ready : (texts : List Text) (kinds : Text) (book : List Entry) (i number : ℕ) (k : Lookup) (question answer : Text) (o : Option Saying)
+entry_ready : (texts : List Text) (kinds : Text) (book : List Entry) (i number : ℕ) (k : Lookup) (question answer : Text) (o : Option Saying)
     (it : Option Ready) →
     ((e : Entry) → slice_get book i ≡ Some e → Some k ≡ lookup_of texts e) → slice_get book i ≡ Some (entry question number answer) →
     o ≡ saying (asked_for k) answer → IfSome it (IsReady texts kinds o) →
@@ -126,9 +126,14 @@ entry_ready texts kinds book i number k question answer o (Some r) looks at says
     answers_so texts kinds e k r (sym (looks e there))
     (subst (λ x. IsReady texts kinds x r) (says ∙ ap (saying (asked_for k)) said) is)
 
-pub if_ok : {A E : Type 0} (r : Result A E) (P Q : A → Type 0) → ((x : A) → P x → Q x) → IfOk r P → IfOk r Q
-if_ok (Ok x) P Q f p = f x p
-if_ok (Err e) P Q f p = tt
+pub ready_where : {E : Type 0} (texts : List Text) (kinds : Text) (book : List Entry) (i number : ℕ) (k : Lookup)
+    (question answer : Text) (o : Option Saying) (r : Result (Option Ready) E) →
+    ((e : Entry) → slice_get book i ≡ Some e → Some k ≡ lookup_of texts e) → slice_get book i ≡ Some (entry question number answer) →
+    o ≡ saying (asked_for k) answer → IfOk r (λ it. IfSome it (IsReady texts kinds o)) →
+    IfOk r (λ it. IfSome it (λ x. (e : Entry) → slice_get book i ≡ Some e → AnswersSo texts kinds e x))
+ready_where texts kinds book i number k question answer o (Ok it) looks at says is =
+    entry_ready texts kinds book i number k question answer o it looks at says is
+ready_where texts kinds book i number k question answer o (Err e) looks at says is = tt
 
 pub next_ready : (texts : List Text) (kinds : Text) (book : List Entry) (old new : List (Option Ready)) (o : Option Ready) (i : ℕ) →
     length old ≡ i → AreReady texts kinds book old → new ≡ old ++ o ∷ [] →
@@ -141,7 +146,8 @@ next_ready texts kinds book old new o i many are grown is =
       subst (AreReady texts kinds book) (sym grown)
           (ready_more texts kinds book old o are
           (λ r so e at.
-          subst (λ x. IfSome x (λ y. (f : Entry) → slice_get book i ≡ Some f → AnswersSo texts kinds f y)) so is e (ap (slice_get book) (sym many) ∙ at))),
+          subst (λ x. IfSome x (λ y. (f : Entry) → slice_get book i ≡ Some f → AnswersSo texts kinds f y)) so is e
+          (ap (slice_get book) (sym many) ∙ at))),
     )
 
 -- by the fields of a book made ready
@@ -151,5 +157,6 @@ pub deed_at : (inside now : List Entry) (said : List Text) (greeted : Text) (all
     Does (texts_of now) r left (deed_of now ports left l)
 deed_at inside now said greeted all l i ports left r texts kinds same are p here wide rich =
     subst (λ b. Does (texts_of b) r left (deed_of b ports left l)) same
-    (deed_ready inside all l i ports left r (subst (λ k. AreReady (texts_of inside) k inside all) kinds (subst (λ ts. AreReady ts greeted inside all) texts are))
+    (deed_ready inside all l i ports left r (subst (λ k. AreReady (texts_of inside) k inside all) kinds
+    (subst (λ ts. AreReady ts greeted inside all) texts are))
     (subst (λ ts. position (asks ts l) inside ≡ Some i) texts p) here wide rich)

@@ -18,7 +18,8 @@ returns c =
       sends = c.in_ok-numbered.numbered;
     } in
     let none = none_of c.reaction_fault.result (sym c.is_some.ensures ∙ c.if-is_some.false) in
-    let price = cost_is 4294967295 (cost r.waits (sends_in said.sends.now)) c.in-Some-left_then.left (sym c.left_then.ensures ∙ c.in-Some-left_then.is) in
+    let price = cost_is 4294967295 (cost r.waits (sends_in said.sends.now)) c.in-Some-left_then.left
+    (sym c.left_then.ensures ∙ c.in-Some-left_then.is) in
     subst (λ o. IsReady c.args.texts.now c.args.kinds.now (option_map said_by o) r) (sym c.in-Some.is)
     (subst (λ a. IsReady c.args.texts.now c.args.kinds.now (Some (said_by a)) r) (sym said.is)
     (reaction_ready c.args.texts.now c.args.kinds.now r said.state.now said.sends.now
