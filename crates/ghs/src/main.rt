@@ -215,13 +215,9 @@ fn network_of<R: Runtime + AllocGlobal>(
 fn run_own<R: Runtime + AllocGlobal>(rt: &R, alloc: Global, options: &RunOptions, job: &Job) -> u8
     ensures { IsStatusOfJob result }
 {
-    let book = match book_of(rt, alloc, job.book.as_ref()) {
-        Ok(book) => book,
-        Err(cause) => return tell_cause(rt, &cause),
-    };
-    match ran_own(rt, alloc, options, job, book) {
-        Ok(end) => end.status(),
-        Err(cause) => tell(rt, &cause),
+    match book_of(rt, alloc, job.book.as_ref()) {
+        Ok(book) => finish_own(rt, ran_own(rt, alloc, options, job, book)),
+        Err(cause) => tell_cause(rt, &cause),
     }
 }
 
@@ -235,7 +231,7 @@ fn ran_own<R: Runtime + AllocGlobal>(
 ) -> Result<OwnEnd, ServeFault> {
     let graph = built_of(rt, alloc, options.wake, job.graph.as_ref())?;
     let mut out = Device::of(io::writer(rt));
-    run_by_book(alloc, options, graph, book, &mut out)
+    run_by_book(alloc, options, graph, book, job.check, &mut out)
 }
 
 /// Reads the book, the trace and the graph, plays the run again by the book, and gives the exit status.
@@ -243,10 +239,9 @@ fn replay_own<R: Runtime + AllocGlobal>(rt: &R, alloc: Global, wake: WakeSet, jo
     ensures { IsStatusOfJob result }
 {
     match own_run_of(rt, alloc, job) {
-        Ok((rules, events)) => match replayed_own(rt, alloc, wake, job, &rules, &events) {
-            Ok(end) => end.status(),
-            Err(cause) => tell(rt, &cause),
-        },
+        Ok((rules, events)) => {
+            finish_own(rt, replayed_own(rt, alloc, wake, job, &rules, &events))
+        }
         Err(status) => status,
     }
 }
@@ -262,7 +257,7 @@ fn replayed_own<R: Runtime + AllocGlobal>(
 ) -> Result<OwnEnd, ServeFault> {
     let graph = built_of(rt, alloc, wake, job.graph.as_ref())?;
     let mut out = Device::of(io::writer(rt));
-    replay_by_book(alloc, wake, graph, rules, events, &mut out)
+    replay_by_book(alloc, wake, graph, rules, events, job.check, &mut out)
 }
 
 /// Reads the book, the trace and the graph, writes the steps of the run by the book, and gives the exit status.
@@ -322,7 +317,7 @@ fn swept_own<R: Runtime + AllocGlobal>(
 {
     let graph = built_of(rt, alloc, options.wake, job.graph.as_ref())?;
     let mut out = Device::of(io::writer(rt));
-    sweep_by_book(alloc, options, &graph, rules, &mut out)
+    sweep_by_book(alloc, options, &graph, rules, job.check, &mut out)
 }
 
 /// Reads the book and the graph, writes the page of the run that a seed picks by the book, or of those of two, and gives the
@@ -409,7 +404,7 @@ fn explored_own<R: Runtime + AllocGlobal>(
 {
     let graph = built_of(rt, alloc, options.wake, job.graph.as_ref())?;
     let mut out = Device::of(io::writer(rt));
-    explore_by_book(alloc, options, &graph, book, &mut out)
+    explore_by_book(alloc, options, &graph, book, job.check, &mut out)
 }
 
 /// The book, ready to run. Where there is none, says why, and gives the exit status.

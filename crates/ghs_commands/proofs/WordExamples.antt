@@ -3,10 +3,11 @@ use Rattle.std.proofs.Common.{◌≡◌, codes, false, true, List, Some, None, [
 use Rattle.clap.specs.declared.error.kind.ErrorKind.TheVariants as kind
 use Rattle.clap.proofs.OnLiterals.{clap_on_literals}
 use Rattle.clap.specs.Words.{Text}
+use Rattle.ghs_choices.specs.declared.check.Check.TheVariants.{Halted, Leader, Spanning, Tree}
 use Rattle.ghs_commands.specs.Grammar.{program}
 use Rattle.peer_trace.specs.declared.protocol.Protocol.TheVariants.{Boruvka, Ghs}
 use Rattle.ghs_commands.specs.Wakers.{listed}
-use Rattle.ghs_commands.specs.Job.{command_in, is_own, kinds_of, name_in, protocols_in, value_in}
+use Rattle.ghs_commands.specs.Job.{check_in, command_in, is_own, kinds_of, name_in, protocols_in, value_in}
 
 tree-taken : kinds_of (codes "tree" ∷ []) ≡ []
 unfolding program clap_on_literals
@@ -272,6 +273,69 @@ steps_by_book_of_ghs-refused :
     kinds_of (codes "steps" ∷ codes "run.trace" ∷ codes "map.gr" ∷ codes "--book" ∷ codes "b.txt" ∷ []) ≡ kind.InvalidValue ∷ []
 unfolding program clap_on_literals
 steps_by_book_of_ghs-refused = refl
+
+-- a check of a run's end by it
+abbrev checked_for : Text → List Text
+checked_for name = by_book (codes "--check" ∷ name ∷ [])
+
+tree-checked : check_in (command_in (checked_for (codes "tree"))) ≡ Some Tree
+unfolding program clap_on_literals
+tree-checked = refl
+
+spanning-checked : check_in (command_in (checked_for (codes "spanning"))) ≡ Some Spanning
+unfolding program clap_on_literals
+spanning-checked = refl
+
+leader-checked : check_in (command_in (checked_for (codes "leader"))) ≡ Some Leader
+unfolding program clap_on_literals
+leader-checked = refl
+
+halted-checked : check_in (command_in (checked_for (codes "halted"))) ≡ Some Halted
+unfolding program clap_on_literals
+halted-checked = refl
+
+nothing-checked : check_in (command_in (by_book [])) ≡ None
+unfolding program clap_on_literals
+nothing-checked = refl
+
+check-taken : kinds_of (checked_for (codes "leader")) ≡ []
+unfolding program clap_on_literals
+check-taken = refl
+
+unknown_check-refused : kinds_of (checked_for (codes "forest")) ≡ kind.InvalidValue ∷ []
+unfolding program clap_on_literals
+unknown_check-refused = refl
+
+check_in_a_sweep-taken : kinds_of (many_by_own (codes "--book" ∷ codes "b.txt" ∷ codes "--check" ∷ codes "tree" ∷ [])) ≡ []
+unfolding program clap_on_literals
+check_in_a_sweep-taken = refl
+
+check_of_all_runs-taken : kinds_of (all_by_own (codes "--book" ∷ codes "b.txt" ∷ codes "--check" ∷ codes "halted" ∷ [])) ≡ []
+unfolding program clap_on_literals
+check_of_all_runs-taken = refl
+
+check_of_a_replay-taken : kinds_of (again_by_own (codes "replay") (codes "--book" ∷ codes "b.txt" ∷ codes "--check" ∷ codes "tree" ∷ [])) ≡ []
+unfolding program clap_on_literals
+check_of_a_replay-taken = refl
+
+check_of_steps-refused :
+    kinds_of (again_by_own (codes "steps") (codes "--book" ∷ codes "b.txt" ∷ codes "--check" ∷ codes "tree" ∷ [])) ≡ kind.UnknownArgument ∷ []
+unfolding program clap_on_literals
+check_of_steps-refused = refl
+
+check_of_ghs-refused : kinds_of (codes "run" ∷ codes "--check" ∷ codes "tree" ∷ []) ≡ kind.InvalidValue ∷ []
+unfolding program clap_on_literals
+check_of_ghs-refused = refl
+
+check_of_boruvka-refused :
+    kinds_of (codes "run" ∷ codes "--protocol" ∷ codes "boruvka" ∷ codes "--check" ∷ codes "tree" ∷ []) ≡ kind.InvalidValue ∷ []
+unfolding program clap_on_literals
+check_of_boruvka-refused = refl
+
+check_beside_a_judge-refused :
+    kinds_of (codes "explore" ∷ codes "--book" ∷ codes "b.txt" ∷ codes "--check" ∷ codes "tree" ∷ []) ≡ kind.InvalidValue ∷ []
+unfolding program clap_on_literals
+check_beside_a_judge-refused = refl
 
 judge-not_own : is_own (command_in (codes "judge" ∷ codes "--book" ∷ codes "b.txt" ∷ codes "run.trace" ∷ [])) ≡ false
 unfolding program clap_on_literals

@@ -119,22 +119,27 @@ wake_rule = option_rule (codes "wake") (codes "all")
 abbrev pub own_rule : Rule
 own_rule = record (new_rule (codes "book")) { long = Some (codes "book") }
 
+-- `--check`: what the end of a run is checked for
+abbrev pub check_rule : Rule
+check_rule = valued_rule (codes "check") (codes "check")
+
 -- `tree [FILE] [--core]`
 abbrev pub tree_command : App
 tree_command = with_rules (file_rule ∷ core_rule ∷ []) (new_app (codes "tree"))
 
--- `run [FILE] [--protocol ghs|boruvka|echo|own] [--book BOOK] [--seed S] [--schedule seeded|patient|rounds|waits|lifo|round-robin]
--- [--workers W] [--wake all|first|V,..] [--turns T] [--print report|trace|time] [--core] [--progress] [--tally]`
+-- `run [FILE] [--protocol ghs|boruvka|echo|own] [--book BOOK] [--check tree|spanning|leader|halted] [--seed S]
+-- [--schedule seeded|patient|rounds|waits|lifo|round-robin] [--workers W] [--wake all|first|V,..] [--turns T]
+-- [--print report|trace|time] [--core] [--progress] [--tally]`
 abbrev pub run_command : App
 run_command =
     with_rules
-    (file_rule ∷ protocol_rule ∷ own_rule ∷ seed_rule ∷ schedule_rule ∷ workers_rule ∷ wake_rule
+    (file_rule ∷ protocol_rule ∷ own_rule ∷ check_rule ∷ seed_rule ∷ schedule_rule ∷ workers_rule ∷ wake_rule
     ∷ turns_rule ∷ print_rule ∷ core_rule ∷ progress_rule ∷ tally_rule ∷ [])
     (new_app (codes "run"))
 
--- `replay TRACE [FILE] [--protocol ghs|boruvka|echo|own] [--book BOOK] [--wake all|first|V,..]`
+-- `replay TRACE [FILE] [--protocol ghs|boruvka|echo|own] [--book BOOK] [--check tree|spanning|leader|halted] [--wake all|first|V,..]`
 abbrev pub replay_command : App
-replay_command = with_rules (trace_rule ∷ file_rule ∷ protocol_rule ∷ own_rule ∷ wake_rule ∷ []) (new_app (codes "replay"))
+replay_command = with_rules (trace_rule ∷ file_rule ∷ protocol_rule ∷ own_rule ∷ check_rule ∷ wake_rule ∷ []) (new_app (codes "replay"))
 
 -- `steps TRACE [FILE] [--protocol ghs|boruvka|echo|own] [--book BOOK] [--wake all|first|V,..] [--from A] [--to B] [--node V] [--json]`
 abbrev pub steps_command : App
@@ -151,13 +156,13 @@ book_rule = record (new_rule (codes "book")) { long = Some (codes "book"); requi
 abbrev pub judge_command : App
 judge_command = with_rules (trace_rule ∷ file_rule ∷ book_rule ∷ wake_rule ∷ []) (new_app (codes "judge"))
 
--- `sweep [FILE ..] [--protocol ghs|boruvka|echo,..|own] [--book BOOK] --seeds FIRST..LAST
+-- `sweep [FILE ..] [--protocol ghs|boruvka|echo,..|own] [--book BOOK] [--check tree|spanning|leader|halted] --seeds FIRST..LAST
 -- [--schedule seeded|patient|rounds|waits|lifo|round-robin] [--workers W] [--wake all|first|V,..] [--turns T]
 -- [--print runs|summary|chart] [--by node|level|rule] [--names] [--json] [--progress]`
 abbrev pub sweep_command : App
 sweep_command =
     with_rules
-    (files_rule ∷ protocols_rule ∷ own_rule ∷ seeds_rule ∷ schedule_rule ∷ workers_rule ∷ wake_rule
+    (files_rule ∷ protocols_rule ∷ own_rule ∷ check_rule ∷ seeds_rule ∷ schedule_rule ∷ workers_rule ∷ wake_rule
     ∷ turns_rule ∷ sheet_rule ∷ by_rule ∷ names_rule ∷ json_rule ∷ progress_rule ∷ [])
     (new_app (codes "sweep"))
 
@@ -206,12 +211,12 @@ found_rule = record (new_rule (codes "found")) { long = Some (codes "print"); de
 abbrev pub end_rule : Rule
 end_rule = option_rule (codes "end") (codes "1")
 
--- `explore [FILE] [--protocol ghs|boruvka|echo|own] [--book BOOK] [--wake all|first|V,..] [--limit STATES] [--print report|trace] [--end K]
--- [--progress]`
+-- `explore [FILE] [--protocol ghs|boruvka|echo|own] [--book BOOK] [--check tree|spanning|leader|halted] [--wake all|first|V,..]
+-- [--limit STATES] [--print report|trace] [--end K] [--progress]`
 abbrev pub explore_command : App
 explore_command =
     with_rules
-    (file_rule ∷ protocol_rule ∷ own_rule ∷ wake_rule ∷ limit_rule ∷ found_rule ∷ end_rule ∷ progress_rule ∷ [])
+    (file_rule ∷ protocol_rule ∷ own_rule ∷ check_rule ∷ wake_rule ∷ limit_rule ∷ found_rule ∷ end_rule ∷ progress_rule ∷ [])
     (new_app (codes "explore"))
 
 -- the program's command line: its name and one of its commands, or a word that asks for its version

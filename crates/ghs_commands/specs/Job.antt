@@ -42,6 +42,8 @@ use Rattle.ghs_commands.specs.declared.two_seeds.TwoSeeds.{TwoSeeds}
 use Rattle.ghs_commands.specs.declared.values.Seeds.{Seeds}
 use Rattle.ghs_commands.specs.Networks.{are_read_once, are_several, named_of, values_in}
 use Rattle.ghs_choices.specs.declared.by.By.{By}
+use Rattle.ghs_choices.specs.declared.check.Check.{Check}
+use Rattle.ghs_commands.specs.Checks.{check_named, is_check}
 use Rattle.peer_trace.specs.Protocol.{protocol_named}
 use Rattle.peer_trace.specs.declared.protocol.Protocol.{Protocol}
 use Rattle.peer_trace.specs.declared.protocol.Protocol.TheVariants.{Ghs}
@@ -91,6 +93,10 @@ pub record IsSheet (command : Used) (sheet : Sheet) : Type 0 where
 -- by which parts messages are counted, as `--by` says; nothing where it isn't given
 abbrev pub by_in : Used → Option By
 by_in command = option_and_then by_named (value_in (codes "by") command)
+
+-- what the end of a run is checked for, as `--check` says; nothing where it isn't given
+abbrev pub check_in : Used → Option Check
+check_in command = option_and_then check_named (value_in (codes "check") command)
 
 -- among which events a schedule picks, as `--schedule` says
 pub record IsScheduleKind (command : Used) (schedule_kind : ScheduleKind) : Type 0 where
@@ -430,9 +436,13 @@ has_book command = not (is_none (value_in (codes "book") command))
 abbrev pub has_rules : Used → Bool
 has_rules command = ((may_be_own command && not (is_exploration command)) || is_sweep command) && has_book command
 
--- a protocol that there is has rules of its own, so no run of it goes by a book
+-- the end of a run is checked
+abbrev pub has_check : Used → Bool
+has_check command = not (is_none (value_in (codes "check") command))
+
+-- a protocol that there is has rules of its own, so no run of it goes by a book, and how its runs end is proved, so none is checked
 abbrev pub fits_known : Used → Bool
-fits_known command = not (has_rules command) && (is_of_ghs command || fits_every command)
+fits_known command = not (has_rules command) && not (has_check command) && (is_of_ghs command || fits_every command)
 
 -- how a network is run goes with a user's own protocol: no threads, and the schedule that picks among all events alone; nothing is told of the
 -- run, and it has no cores
@@ -491,6 +501,7 @@ has_values command =
     && has_seeds command
     && has_protocol command
     && has_figures command
+    && is_check (value_in (codes "check") command)
     && has_sources command
 
 -- what is wrong with the values of a command's options

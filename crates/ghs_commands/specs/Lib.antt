@@ -1,4 +1,5 @@
 -- To be believed: contracts cite what stands here, and what it is made of.
+pub mod Checks
 pub mod Grammar
 pub mod Job
 pub mod Networks

@@ -1,7 +1,7 @@
 //! The words that the program takes.
 ghost use Rattle.clap.specs.Words.{App, app_of, new_app, rule_of, with_subcommand};
 ghost use Rattle.clap.specs.declared.builder.command.Command.TheViews.{out-Command};
-ghost use Rattle.ghs_commands.specs.Grammar.{by_rule, core_rule, end_rule, explore_command, file_rule, book_rule, judge_command, files_rule, flag_rule, found_rule, from_rule, json_rule, kind_rule, limit_rule, links_rule, make_command, names_rule, node_rule, own_rule, nodes_rule, option_rule, pair_rule, place_rule, print_rule, program, progress_rule, protocol_rule, protocols_rule, replay_command, run_command, schedule_rule, seed_rule, seeds_rule, sheet_rule, steps_command, sweep_command, tally_rule, to_rule, trace_rule, tree_command, turns_rule, valued_rule, view_command, wake_rule, weights_rule, with_rules, workers_rule, stored_rule};
+ghost use Rattle.ghs_commands.specs.Grammar.{by_rule, check_rule, core_rule, end_rule, explore_command, file_rule, book_rule, judge_command, files_rule, flag_rule, found_rule, from_rule, json_rule, kind_rule, limit_rule, links_rule, make_command, names_rule, node_rule, own_rule, nodes_rule, option_rule, pair_rule, place_rule, print_rule, program, progress_rule, protocol_rule, protocols_rule, replay_command, run_command, schedule_rule, seed_rule, seeds_rule, sheet_rule, steps_command, sweep_command, tally_rule, to_rule, trace_rule, tree_command, turns_rule, valued_rule, view_command, wake_rule, weights_rule, with_rules, workers_rule, stored_rule};
 ghost use Rattle.std.specs.List.{All};
 ghost use Rattle.std.specs.Prelude.{◌≡◌, IfOk, false, map};
 
@@ -9,7 +9,7 @@ use clap::{Arg, ArgAction, Command};
 use std::alloc::{AllocError, Global};
 
 /// The program's version, and by which kit its proofs hold.
-pub const VERSION: &str = "2.5.0, proved with rattle-kit-13f logic dac8208d650f15bf";
+pub const VERSION: &str = "2.6.0, proved with rattle-kit-13f logic dac8208d650f15bf";
 
 /// The program's commands, with their help.
 #[tactic(auto, unfolding(crate::specs::Grammar::program))]
@@ -79,6 +79,7 @@ fn run<'a>(alloc: Global) -> Result<Command<'a>, AllocError>
         file(alloc),
         protocol(alloc),
         rule_book(alloc),
+        check(alloc),
         seed(alloc),
         schedule(alloc),
         workers(alloc),
@@ -107,6 +108,7 @@ fn replay<'a>(alloc: Global) -> Result<Command<'a>, AllocError>
         file(alloc),
         protocol(alloc),
         rule_book(alloc),
+        check(alloc),
         wake(alloc),
     ]?;
     Ok(command(
@@ -164,6 +166,7 @@ fn sweep<'a>(alloc: Global) -> Result<Command<'a>, AllocError>
         files(alloc),
         protocols(alloc),
         rule_book(alloc),
+        check(alloc),
         seeds(alloc),
         schedule(alloc),
         sharers(alloc),
@@ -238,6 +241,7 @@ fn explore<'a>(alloc: Global) -> Result<Command<'a>, AllocError>
         file(alloc),
         protocol(alloc),
         own(alloc),
+        check(alloc),
         wake(alloc),
         limit(alloc),
         found(alloc),
@@ -384,6 +388,16 @@ fn rule_book<'a>(alloc: Global) -> Arg<'a>
     ensures rule { rule_of result ≡ own_rule }
 {
     valued(alloc, "book", "book").help("The book by which the nodes go, with --protocol own")
+}
+
+/// What the end of a run is checked for.
+fn check<'a>(alloc: Global) -> Arg<'a>
+    ensures local { result.global ≡ false }
+    ensures rule { rule_of result ≡ check_rule }
+{
+    valued(alloc, "check", "check").help(
+        "What the end of a run is checked for, with --protocol own: tree (the links that both ends mark are the minimum spanning forest), spanning (the marked links are a spanning forest), leader (each component has one) or halted (every node has)",
+    )
 }
 
 /// The number of the first event that is shown.

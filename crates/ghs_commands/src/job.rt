@@ -1,7 +1,8 @@
 //! Command lines.
 ghost use Rattle.ghs_commands.specs.declared.job.JobFault.TheVariants.{Memory};
 ghost use Rattle.ghs_commands.specs.Grammar.{program};
-ghost use Rattle.ghs_commands.specs.Job.{AreNetworks, AreOptions, IsAsked, kind_in, links_in, weights_in, AreStepsOptions, IsChoice, AreSweepLimits, AreSweepOptions, AreWithinLimits, by_in, command_in, first_seed_in, has_choices, has_course, has_events, has_figures, has_network, has_numbers, has_prints, has_seeds, has_sizes, has_sources, has_values, kinds_of, name_in, node_in, number_at, option_kinds, pair_in, protocol_in, second_seed_in, seeds_at, value_in, is_own, with_name, IsForm, IsOfSeed, IsScheduleKind, IsRefused, PlaysAgain, IsSaid, IsSaidOf, IsSheet, IsShow, IsTask, IsWake, IsWithinLimits, AreStoredViewOptions, AreViewLimits, AreViewOptions};
+ghost use Rattle.ghs_commands.specs.Job.{AreNetworks, AreOptions, IsAsked, kind_in, links_in, weights_in, AreStepsOptions, IsChoice, AreSweepLimits, AreSweepOptions, AreWithinLimits, by_in, check_in, command_in, first_seed_in, has_choices, has_course, has_events, has_figures, has_network, has_numbers, has_prints, has_seeds, has_sizes, has_sources, has_values, kinds_of, name_in, node_in, number_at, option_kinds, pair_in, protocol_in, second_seed_in, seeds_at, value_in, is_own, with_name, IsForm, IsOfSeed, IsScheduleKind, IsRefused, PlaysAgain, IsSaid, IsSaidOf, IsSheet, IsShow, IsTask, IsWake, IsWithinLimits, AreStoredViewOptions, AreViewLimits, AreViewOptions};
+ghost use Rattle.ghs_commands.specs.Checks.{is_check};
 ghost use Rattle.ghs_commands.specs.Values.{AreSeeds, are_apart, are_weights, is_among, is_kind, is_number, is_range};
 ghost use Rattle.ghs_commands.specs.Networks.{are_read_once, values_in};
 ghost use Rattle.ghs_commands.specs.Parts.{go_together, is_part};
@@ -11,6 +12,7 @@ ghost use Rattle.clap.specs.Words.{kind_of, subcommand_rows_of};
 ghost use Rattle.std.specs.Option.{option_map};
 ghost use Rattle.std.specs.Prelude.{◌≡◌, ◌≢◌, ◌≤◌, ◌↔◌, ◌∷◌, [], IfErr, IfOk, IfSome, IsTrue, OnErr, OnOk, Some, codes, false, map, string_bytes, true};
 
+use crate::checks::{check_ending, check_of};
 use crate::exploring::{ExploreOptions, MOST_STATES, exploration_of};
 use crate::fitting::is_own;
 use crate::grammar::program;
@@ -26,6 +28,7 @@ use crate::wakers::{is_wake, no_wake, wake_named};
 use clap::error::ErrorKind;
 use clap::{ArgMatches, Error};
 use ghs_choices::by::By;
+use ghs_choices::check::Check;
 use ghs_choices::choice::Choice;
 use ghs_choices::form::Form;
 use ghs_choices::schedule_kind::ScheduleKind;
@@ -203,13 +206,15 @@ pub enum Task {
 /// stored trace (standard input where it is `-`), the files of the networks of a sweep whose lines begin with names (none
 /// where one network is swept without its name; one at most is `-`, standard input), the file of the book by which a stored
 /// run is judged (none where it's only played again), or the nodes go, or with which all runs are compared (none where they
-/// are only explored), whether the nodes go by it, since the protocol is a user's own, and the task.
+/// are only explored), what the end of a run is checked for (nothing where that isn't asked for; it is only of a user's own
+/// protocol), whether the nodes go by the book, since the protocol is a user's own, and the task.
 #[derive(Debug, Drop)]
 pub struct Job {
     pub graph: Option<String>,
     pub trace: Option<String>,
     pub networks: Vec<String>,
     pub book: Option<String>,
+    pub check: Option<Check>,
     pub own: bool,
     pub task: Task,
 }
@@ -247,6 +252,7 @@ pub fn read_job(alloc: Global, words: &[String]) -> Result<Job, JobFault>
     ensures graph { IfOk result (λ job. option_map string_bytes job.graph ≡ value_in (codes "FILE") (command_in (map string_bytes words.now))) }
     ensures networks { IfOk result (λ job. AreNetworks (command_in (map string_bytes words.now)) (map string_bytes job.networks.items)) }
     ensures book { IfOk result (λ job. option_map string_bytes job.book ≡ value_in (codes "book") (command_in (map string_bytes words.now))) }
+    ensures check { IfOk result (λ job. job.check ≡ check_in (command_in (map string_bytes words.now))) }
     ensures own { IfOk result (λ job. job.own ≡ is_own (command_in (map string_bytes words.now))) }
     ensures limits { IfOk result (λ job. IsWithinLimits job.task) }
     ensures taken { OnOk result (kinds_of (map string_bytes words.now) ≡ []) }
@@ -278,6 +284,7 @@ fn job_of<'a>(alloc: Global, matches: &ArgMatches<'a>) -> Result<Job, JobFault>
     ensures graph { IfOk result (λ job. option_map string_bytes job.graph ≡ value_in (codes "FILE") (subcommand_rows_of matches.now)) }
     ensures networks { IfOk result (λ job. AreNetworks (subcommand_rows_of matches.now) (map string_bytes job.networks.items)) }
     ensures book { IfOk result (λ job. option_map string_bytes job.book ≡ value_in (codes "book") (subcommand_rows_of matches.now)) }
+    ensures check { IfOk result (λ job. job.check ≡ check_in (subcommand_rows_of matches.now)) }
     ensures own { IfOk result (λ job. job.own ≡ is_own (subcommand_rows_of matches.now)) }
     ensures limits { IfOk result (λ job. IsWithinLimits job.task) }
     ensures taken { OnOk result (option_kinds (subcommand_rows_of matches.now) ≡ []) }
@@ -292,6 +299,7 @@ fn job_of<'a>(alloc: Global, matches: &ArgMatches<'a>) -> Result<Job, JobFault>
         trace: owned(alloc, value_of(matches, "TRACE"))?,
         networks: networks_of(alloc, matches)?,
         book: owned(alloc, value_of(matches, "book"))?,
+        check: check_of(matches),
         own: is_own(matches),
         task: task_of(alloc, matches)?,
     })
@@ -318,6 +326,7 @@ fn check_options<'a>(alloc: Global, matches: &ArgMatches<'a>) -> Result<(), JobF
     check_runs(alloc, matches)?;
     check_protocol(alloc, matches)?;
     check_figures(alloc, matches)?;
+    check_ending(alloc, matches)?;
     check_sources(alloc, matches)
 }
 

@@ -5,6 +5,7 @@ ghost use Rattle.ghs_commands.specs.Protocols.{are_distinct, are_ghs, are_known,
 ghost use Rattle.std.specs.Option.{option_map};
 ghost use Rattle.std.specs.Prelude.{◌≡◌, IfErr, IfOk, OnErr, OnOk, codes, false, is_none, true};
 
+use crate::checks::has_check;
 use crate::fitting::{has_book, has_rules, is_own, stranger_in, stranger_to_own};
 use crate::job::{JobFault, value_of};
 use crate::values::unknown_choice;
@@ -160,7 +161,8 @@ fn check_own<'a>(alloc: Global, matches: &ArgMatches<'a>) -> Result<(), JobFault
     }
 }
 
-/// Whether all that is asked for goes with protocols that there are; a run of theirs goes by no book.
+/// Whether all that is asked for goes with protocols that there are; a run of theirs goes by no book, and its end isn't
+/// checked.
 fn check_known<'a>(alloc: Global, matches: &ArgMatches<'a>) -> Result<(), JobFault>
     ensures ok { OnOk result (fits_known (subcommand_rows_of matches.now) ≡ true) }
     ensures err { OnErr result (fits_known (subcommand_rows_of matches.now) ≡ false) }
@@ -169,6 +171,10 @@ fn check_known<'a>(alloc: Global, matches: &ArgMatches<'a>) -> Result<(), JobFau
     if has_rules(matches) {
         let name = value_of(matches, "protocol").unwrap_or("ghs");
         return Err(no_such_run(alloc, name, "--book <book>"));
+    }
+    if has_check(matches) {
+        let name = other_of(matches).unwrap_or("ghs");
+        return Err(no_such_run(alloc, name, "--check <check>"));
     }
     match (other_of(matches), stranger_in(matches)) {
         (Some(name), Some(argument)) => Err(no_such_run(alloc, name, argument)),

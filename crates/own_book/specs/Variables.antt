@@ -13,3 +13,6 @@ says_asleep state = has_variable (codes "asleep=yes") state
 
 abbrev pub says_halted : List ℕ → Bool
 says_halted state = has_variable (codes "halted=yes") state
+
+abbrev pub says_leader : List ℕ → Bool
+says_leader state = has_variable (codes "leader=yes") state

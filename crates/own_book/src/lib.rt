@@ -11,8 +11,8 @@
 //! written is read back (`law_book`), and each text is one book or has one fault (`law_one_book`).
 //!
 //! Proved of an answer: `same_at_ports` answers yes exactly where each port has the same messages in the same order
-//! (`SameAtPorts`); `sends_fault` gives the fault of the first send that has one; `says_asleep` and `says_halted` find their
-//! variable wherever it stands in a state.
+//! (`SameAtPorts`); `sends_fault` gives the fault of the first send that has one; `says_asleep`, `says_halted` and `says_leader`
+//! find their variable wherever it stands in a state.
 //!
 //! A question may stand twice with the same answer: the second line says nothing new, so two books of one node put behind each
 //! other are a book exactly where they don't contradict each other.

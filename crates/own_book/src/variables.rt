@@ -1,5 +1,5 @@
 //! The variables of a state that a runtime knows.
-ghost use Rattle.own_book.specs.Variables.{has_variable, says_asleep, says_halted};
+ghost use Rattle.own_book.specs.Variables.{has_variable, says_asleep, says_halted, says_leader};
 ghost use Rattle.std.specs.Prelude.{◌≡◌};
 
 use crate::parts::cut;
@@ -9,6 +9,7 @@ use crate::parts::cut;
 /// ```text
 /// let sleeps = says_asleep(b"level=0;asleep=yes");     // true
 /// let halted = says_halted(b"level=0;halted=no");      // false
+/// let leads = says_leader(b"leader=yes;halted=yes");   // true
 /// ```
 pub fn says_asleep(state: &[u8]) -> bool
     ensures { result ≡ says_asleep state.now }
@@ -21,6 +22,13 @@ pub fn says_halted(state: &[u8]) -> bool
     ensures { result ≡ says_halted state.now }
 {
     has_variable(state, b"halted=yes")
+}
+
+/// Whether a state has `leader=yes`.
+pub fn says_leader(state: &[u8]) -> bool
+    ensures { result ≡ says_leader state.now }
+{
+    has_variable(state, b"leader=yes")
 }
 
 /// Whether a state has this variable with this value.

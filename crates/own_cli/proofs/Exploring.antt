@@ -1,5 +1,6 @@
 -- All runs of a small network by a book.
-use Rattle.std.proofs.Common.{◌≡◌, ℕ, ◌++◌, List, Vec, Global, refl, subst, sym}
+use Rattle.std.proofs.Common.{◌≡◌, ℕ, ◌++◌, List, Option, Vec, Global, refl, subst, sym}
+use Rattle.ghs_choices.specs.declared.check.Check.{Check}
 use Rattle.ghs_commands.specs.declared.exploring.ExploreOptions.{ExploreOptions}
 use Rattle.ghs_graph.specs.Graph.{Shape}
 use Rattle.own_book.specs.Entry.{Entry}
@@ -13,8 +14,8 @@ use Rattle.own_cli.specs.Explore.{IsFoundOwn, IsOwnExploration, IsToldAs, IsTold
 use Rattle.own_cli.specs.declared.run.OwnEnd.{OwnEnd}
 use Rattle.own_cli.specs.declared.run.OwnEnd.TheVariants as end
 
-module _ (o : ExploreOptions) (g : Shape) (book : List Entry) (x : BookExplored) (is : IsToldBy o g book x) where
-  printed_so : (y : BookExplored) (e : OwnEnd) (text : List ℕ) → x ≡ y → IsToldAs o.finding book y e text → IsOwnExploration o g book e text
+module _ (o : ExploreOptions) (check : Option Check) (g : Shape) (book : List Entry) (x : BookExplored) (is : IsToldBy o check g book x) where
+  printed_so : (y : BookExplored) (e : OwnEnd) (text : List ℕ) → x ≡ y → IsToldAs o.finding book y e text → IsOwnExploration o check g book e text
   printed_so y e text same printed = record {
     told = x;
     is = is;
@@ -22,16 +23,22 @@ module _ (o : ExploreOptions) (g : Shape) (book : List Entry) (x : BookExplored)
   }
 
   -- the questions that the book lacks
-  pub lacking_printed : (questions : Vec ℕ Global) → x ≡ told.Lacks questions → IsOwnExploration o g book end.Asks questions.items
+  pub lacking_printed : (questions : Vec ℕ Global) → x ≡ told.Lacks questions → IsOwnExploration o check g book end.Asks questions.items
   lacking_printed questions same = printed_so (told.Lacks questions) end.Asks questions.items same (refl, refl)
 
   -- what is said of answers, and the events of a run that leads there
   pub failure_printed : (f : Failure) (text : List ℕ) → x ≡ told.Fails f →
       text ≡ f.text.items ++ leads_there ++ own_text (mark_of book) f.events.items →
-      IsOwnExploration o g book end.Fails text
+      IsOwnExploration o check g book end.Fails text
   failure_printed f text same printed = printed_so (told.Fails f) end.Fails text same (refl, printed)
+
+  -- what is said of an end, and the events of a run that leads there
+  pub miss_printed : (f : Failure) (text : List ℕ) → x ≡ told.Misses f →
+      text ≡ f.text.items ++ leads_there ++ own_text (mark_of book) f.events.items →
+      IsOwnExploration o check g book end.Misses text
+  miss_printed f text same printed = printed_so (told.Misses f) end.Misses text same (refl, printed)
 
   -- what was found of all runs
   pub found_printed : (found : BookEnds) (text : List ℕ) → x ≡ told.Whole found → IsFoundOwn o.finding book found text →
-      IsOwnExploration o g book end.Ended text
+      IsOwnExploration o check g book end.Ended text
   found_printed found text same printed = printed_so (told.Whole found) end.Ended text same (refl, printed)

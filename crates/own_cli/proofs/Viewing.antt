@@ -1,6 +1,6 @@
 -- What goes out of the pages of runs by a book is of those runs.
 use Rattle.std.proofs.Common.{◌≡◌, ℕ, ◌<◌, length, List, Option, None, Some, Result, Ok, Err, inl, inr, refl, subst, sym}
-use Rattle.std.specs.Prelude.{IfOk}
+use Rattle.std.specs.Prelude.{IfErr, IfOk}
 use Rattle.ghs_graph.specs.Graph.{Shape}
 use Rattle.ghs_report.specs.Writing.{HasWritten}
 use Rattle.own_book.specs.Entry.{Entry}
@@ -168,3 +168,9 @@ module _ (o : StoredViewOptions) (g : Shape) (book : List Entry) (events : List 
         subst (λ (b : List ℕ). written < length b) is few,
         subst (λ (b : List ℕ). HasWritten old new b written) is out,
       )
+
+-- why there is no page of a copy of the graph is why there is none of the graph
+pub unviewed : (o : ViewOptions) (g : Shape) (book : List Entry) (copy : Shape) (result : Result OwnTold ServeFault) (fault : ServeFault) →
+    result ≡ Err fault → copy ≡ g → HasNoOwnView o copy book fault → IfErr result (HasNoOwnView o g book)
+unviewed o g book copy result fault is same why =
+    subst (λ (r : Result OwnTold ServeFault). IfErr r (HasNoOwnView o g book)) (sym is) (subst (λ h. HasNoOwnView o h book fault) same why)

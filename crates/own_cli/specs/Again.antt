@@ -1,6 +1,7 @@
 -- What the program prints of a stored run by a book that is played again, and when there is one.
 use Rattle.std.specs.Prelude.{◌≡◌, ℕ, ◌<◌, length, List, Option, Result, Ok, Err}
 use Rattle.ghs_gr.specs.Text.{IsTooLong}
+use Rattle.ghs_choices.specs.declared.check.Check.{Check}
 use Rattle.ghs_graph.specs.Graph.{Shape}
 use Rattle.ghs_report.specs.Writing.{HasWritten}
 use Rattle.own_book.specs.Entry.{Entry}
@@ -62,34 +63,37 @@ abbrev pub IsOwnCause : List Entry → List ℕ → OwnCause → Type 0
 IsOwnCause book stored (cause.Reading fault) = IsStoredCause (HasOwnFault stored) stored fault
 IsOwnCause book stored why = (mark : Mark) × (events : List Event) × IsMarkedText stored mark events × IsMisfitCause book mark why
 
--- these events are a run of the graph by this book, and what is told of it
-pub record IsAgain (wake : WakeSet) (g : Shape) (book : List Entry) (events : List Event) (ran : BookRun) : Type 0 where
+-- these events are a run of the graph by this book, and what is told of it and of its end by a check
+pub record IsAgain (wake : WakeSet) (check : Option Check) (g : Shape) (book : List Entry) (events : List Event) (ran : BookRun) : Type 0 where
   pub replay : IsReplayBy book RUN_MESSAGES g wake events ran
-  pub told : IsToldBy book RUN_MESSAGES g ran
+  pub told : IsToldBy book RUN_MESSAGES check g ran
 
 -- a text of such a run
-pub record IsAgainText (wake : WakeSet) (g : Shape) (book : List Entry) (events : List Event) (end : OwnEnd) (output : List ℕ) : Type 0 where
+pub record IsAgainText (wake : WakeSet) (check : Option Check) (g : Shape) (book : List Entry) (events : List Event) (end : OwnEnd)
+    (output : List ℕ) : Type 0 where
   pub ran : BookRun
-  pub again : IsAgain wake g book events ran
+  pub again : IsAgain wake check g book events ran
   pub printed : IsPrintedAs (λ text. text ≡ ran.account.items) ran end output
 
 -- they are one that hasn't ended, though no node has stopped
-pub record GoesOnOwn (wake : WakeSet) (g : Shape) (book : List Entry) (events : List Event) : Type 0 where
+pub record GoesOnOwn (wake : WakeSet) (check : Option Check) (g : Shape) (book : List Entry) (events : List Event) : Type 0 where
   pub ran : BookRun
-  pub again : IsAgain wake g book events ran
+  pub again : IsAgain wake check g book events ran
   pub cut : IsCutOff ran
 
 -- why there is no text
-abbrev pub StopsAgain : WakeSet → Shape → List Entry → List Event → ServeFault → Type 0
-StopsAgain wake g book events (serve.NotLawful k) = IsFirstUnlawful (rules_of book RUN_MESSAGES) g wake events k
-StopsAgain wake g book events serve.NotEnded = GoesOnOwn wake g book events
-StopsAgain wake g book events serve.Memory = Unit {0}
-StopsAgain wake g book events fault = ⊥
+abbrev pub StopsAgain : WakeSet → Option Check → Shape → List Entry → List Event → ServeFault → Type 0
+StopsAgain wake check g book events (serve.NotLawful k) = IsFirstUnlawful (rules_of book RUN_MESSAGES) g wake events k
+StopsAgain wake check g book events serve.NotEnded = GoesOnOwn wake check g book events
+StopsAgain wake check g book events serve.Memory = Unit {0}
+StopsAgain wake check g book events fault = ⊥
 
 -- what has gone out: all of the text, or only its first bytes, where a write failed; nothing where the events are no run, or one that hasn't ended
-abbrev pub HasReplayedOwn : WakeSet → Shape → List Entry → List Event → Option (List ℕ) → Option (List ℕ) → Result OwnEnd ServeFault → Type 0
-HasReplayedOwn wake g book events old new (Ok end) =
-    (output : List ℕ) × IsAgainText wake g book events end output × HasWritten old new output (length output)
-HasReplayedOwn wake g book events old new (Err (serve.Write written)) =
-    (output : List ℕ) × ((end : OwnEnd) × IsAgainText wake g book events end output) × (written < length output) × HasWritten old new output written
-HasReplayedOwn wake g book events old new (Err fault) = StopsAgain wake g book events fault × (new ≡ old)
+abbrev pub HasReplayedOwn : WakeSet → Option Check → Shape → List Entry → List Event → Option (List ℕ) → Option (List ℕ) →
+    Result OwnEnd ServeFault → Type 0
+HasReplayedOwn wake check g book events old new (Ok end) =
+    (output : List ℕ) × IsAgainText wake check g book events end output × HasWritten old new output (length output)
+HasReplayedOwn wake check g book events old new (Err (serve.Write written)) =
+    (output : List ℕ) × ((end : OwnEnd) × IsAgainText wake check g book events end output) × (written < length output)
+    × HasWritten old new output written
+HasReplayedOwn wake check g book events old new (Err fault) = StopsAgain wake check g book events fault × (new ≡ old)

@@ -1,6 +1,7 @@
 -- What the program prints of all runs of a small network by a book.
 use Rattle.std.specs.Prelude.{◌≡◌, ℕ, ◌<◌, ◌-◌, ◌++◌, codes, length, List, Option, None, Some, Result, Ok, Err}
 use Rattle.std.specs.Global.{Vec}
+use Rattle.ghs_choices.specs.declared.check.Check.{Check}
 use Rattle.ghs_graph.specs.Graph.{Shape}
 use Rattle.ghs_report.specs.Writing.{HasWritten}
 use Rattle.own_book.specs.Entry.{Entry}
@@ -29,7 +30,7 @@ abbrev pub row_asked : Finding → ℕ → Option ℕ
 row_asked Ends k = None
 row_asked Run k = Some (k - 1)
 
--- what stands between what is said of answers and the events of a run that leads there
+-- what stands between what is said of answers, or of an end, and the events of a run that leads there
 abbrev pub leads_there : List ℕ
 leads_there = codes "an order that leads there:\n"
 
@@ -48,37 +49,42 @@ abbrev pub IsToldAs : Finding → List Entry → BookExplored → OwnEnd → Lis
 IsToldAs finding book (told.Lacks questions) e text = (e ≡ end.Asks) × (text ≡ questions.items)
 IsToldAs finding book (told.Fails f) e text =
     (e ≡ end.Fails) × (text ≡ f.text.items ++ leads_there ++ own_text (mark_of book) f.events.items)
+IsToldAs finding book (told.Misses f) e text =
+    (e ≡ end.Misses) × (text ≡ f.text.items ++ leads_there ++ own_text (mark_of book) f.events.items)
 IsToldAs finding book (told.Whole x) e text = (e ≡ end.Ended) × IsFoundOwn finding book x text
 
 -- it is told of all runs of the graph by the book
-abbrev pub IsToldBy : ExploreOptions → Shape → List Entry → BookExplored → Type 0
-IsToldBy o g book x = IsExploredBy book EXPLORE_MESSAGES g o.wake (row_asked o.finding o.end) x
+abbrev pub IsToldBy : ExploreOptions → Option Check → Shape → List Entry → BookExplored → Type 0
+IsToldBy o check g book x = IsExploredBy book EXPLORE_MESSAGES check g o.wake (row_asked o.finding o.end) x
 
-pub record IsOwnExploration (o : ExploreOptions) (g : Shape) (book : List Entry) (e : OwnEnd) (output : List ℕ) : Type 0 where
+pub record IsOwnExploration (o : ExploreOptions) (check : Option Check) (g : Shape) (book : List Entry) (e : OwnEnd) (output : List ℕ)
+    : Type 0 where
   pub told : BookExplored
-  pub is : IsToldBy o g book told
+  pub is : IsToldBy o check g book told
   pub printed : IsToldAs o.finding book told e output
 
 -- there are no more rows than these
-pub record IsNoRow (o : ExploreOptions) (g : Shape) (book : List Entry) (rows : ℕ) : Type 0 where
+pub record IsNoRow (o : ExploreOptions) (check : Option Check) (g : Shape) (book : List Entry) (rows : ℕ) : Type 0 where
   pub found : BookEnds
-  pub is : IsToldBy o g book (told.Whole found)
+  pub is : IsToldBy o check g book (told.Whole found)
   pub none : found.run ≡ None
   pub number : rows ≡ length found.rows.items
 
 -- why nothing is printed; the numbers of the search or memory may run out of any
-abbrev pub HasNoOwnExploration : ExploreOptions → Shape → List Entry → ServeFault → Type 0
-HasNoOwnExploration o g book serve.TooManyKinds = 8 < kinds_many (kinds_of book)
-HasNoOwnExploration o g book serve.TooLargeToExplore = IsSmall g → ⊥
-HasNoOwnExploration o g book (serve.StateLimit most) = (most ≡ o.limit) × HasMoreStates (rules_of book EXPLORE_MESSAGES) g o.wake o.limit
-HasNoOwnExploration o g book (serve.NoSuchEnd rows) = IsNoRow o g book rows
-HasNoOwnExploration o g book serve.PartLimit = Unit {0}
-HasNoOwnExploration o g book serve.Memory = Unit {0}
-HasNoOwnExploration o g book fault = ⊥
+abbrev pub HasNoOwnExploration : ExploreOptions → Option Check → Shape → List Entry → ServeFault → Type 0
+HasNoOwnExploration o check g book serve.TooManyKinds = 8 < kinds_many (kinds_of book)
+HasNoOwnExploration o check g book serve.TooLargeToExplore = IsSmall g → ⊥
+HasNoOwnExploration o check g book (serve.StateLimit most) = (most ≡ o.limit) × HasMoreStates (rules_of book EXPLORE_MESSAGES) g o.wake o.limit
+HasNoOwnExploration o check g book (serve.NoSuchEnd rows) = IsNoRow o check g book rows
+HasNoOwnExploration o check g book serve.PartLimit = Unit {0}
+HasNoOwnExploration o check g book serve.Memory = Unit {0}
+HasNoOwnExploration o check g book fault = ⊥
 
 -- what has gone out: all of the text, or only its first bytes, where a write failed
-abbrev pub HasExploredOwn : ExploreOptions → Shape → List Entry → Option (List ℕ) → Option (List ℕ) → Result OwnEnd ServeFault → Type 0
-HasExploredOwn o g book old new (Ok e) = (output : List ℕ) × IsOwnExploration o g book e output × HasWritten old new output (length output)
-HasExploredOwn o g book old new (Err (serve.Write written)) =
-    (output : List ℕ) × ((e : OwnEnd) × IsOwnExploration o g book e output) × (written < length output) × HasWritten old new output written
-HasExploredOwn o g book old new (Err fault) = HasNoOwnExploration o g book fault × (new ≡ old)
+abbrev pub HasExploredOwn : ExploreOptions → Option Check → Shape → List Entry → Option (List ℕ) → Option (List ℕ) →
+    Result OwnEnd ServeFault → Type 0
+HasExploredOwn o check g book old new (Ok e) =
+    (output : List ℕ) × IsOwnExploration o check g book e output × HasWritten old new output (length output)
+HasExploredOwn o check g book old new (Err (serve.Write written)) =
+    (output : List ℕ) × ((e : OwnEnd) × IsOwnExploration o check g book e output) × (written < length output) × HasWritten old new output written
+HasExploredOwn o check g book old new (Err fault) = HasNoOwnExploration o check g book fault × (new ≡ old)

@@ -1,6 +1,7 @@
 -- What the program prints of a run by a book, and how that ends.
 use Rattle.std.specs.Prelude.{◌≡◌, ◌≢◌, ◌⊎◌, ℕ, ◌<◌, Bool, false, true, length, List, [], Option, None, Some, Result, Ok, Err}
 use Rattle.ghs_answers.specs.Timing.{timed_text}
+use Rattle.ghs_choices.specs.declared.check.Check.{Check}
 use Rattle.ghs_choices.specs.declared.schedule_kind.ScheduleKind.TheVariants.{Seeded}
 use Rattle.ghs_graph.specs.Graph.{Shape}
 use Rattle.ghs_report.specs.Writing.{HasWritten}
@@ -18,29 +19,31 @@ use Rattle.ghs_commands.specs.declared.job.Show.TheVariants.{Summary, Events, Ti
 use Rattle.ghs_answers.specs.declared.fault.ServeFault.{ServeFault}
 use Rattle.ghs_answers.specs.declared.fault.ServeFault.TheVariants as serve
 use Rattle.own_cli.specs.declared.run.OwnEnd.{OwnEnd}
-use Rattle.own_cli.specs.declared.run.OwnEnd.TheVariants.{Ended, Asks, Fails}
+use Rattle.own_cli.specs.declared.run.OwnEnd.TheVariants.{Ended, Asks, Fails, Misses}
 
 abbrev pub own_status : OwnEnd → ℕ
 own_status Ended = 0
 own_status Asks = 7
 own_status Fails = 8
+own_status Misses = 9
 
--- the run by this book that a seed picks, and what is told of it
-pub record IsSeedsRun (seed turns : ℕ) (wake : WakeSet) (g : Shape) (book : List Entry) (ran : BookRun) : Type 0 where
+-- the run by this book that a seed picks, and what is told of it and of its end by a check
+pub record IsSeedsRun (seed turns : ℕ) (wake : WakeSet) (check : Option Check) (g : Shape) (book : List Entry) (ran : BookRun) : Type 0 where
   pub run : IsRunBy book RUN_MESSAGES seed turns g wake ran.events.items
   pub stands : StandsBy book RUN_MESSAGES turns g wake ran.events.items ran.at_limit
-  pub told : IsToldBy book RUN_MESSAGES g ran
+  pub told : IsToldBy book RUN_MESSAGES check g ran
 
 -- that of the options
-abbrev pub IsOwnRun : RunOptions → Shape → List Entry → BookRun → Type 0
+abbrev pub IsOwnRun : RunOptions → Option Check → Shape → List Entry → BookRun → Type 0
 IsOwnRun o = IsSeedsRun o.seed o.turns o.wake
 
 -- how it ends: with questions that the book lacks; where it lacks none, with what is said of answers; where that is nothing, since no event may
--- happen
+-- happen, with what a check says, or as it has to
 abbrev pub IsOwnEnd : BookRun → OwnEnd → Type 0
 IsOwnEnd ran Asks = ran.lacking.items ≢ []
 IsOwnEnd ran Fails = (ran.lacking.items ≡ []) × (ran.faults.items ≢ [])
-IsOwnEnd ran Ended = (ran.lacking.items ≡ []) × (ran.faults.items ≡ []) × (ran.at_limit ≡ false)
+IsOwnEnd ran Misses = (ran.lacking.items ≡ []) × (ran.faults.items ≡ []) × (ran.at_limit ≡ false) × (ran.wrong.items ≢ [])
+IsOwnEnd ran Ended = (ran.lacking.items ≡ []) × (ran.faults.items ≡ []) × (ran.at_limit ≡ false) × (ran.wrong.items ≡ [])
 
 -- it has none of these ends
 pub record IsCutOff (ran : BookRun) : Type 0 where
@@ -48,10 +51,11 @@ pub record IsCutOff (ran : BookRun) : Type 0 where
   pub faults : ran.faults.items ≡ []
   pub limit : ran.at_limit ≡ true
 
--- what is printed of it: the questions, what is said of answers, or what shows a run that has ended
+-- what is printed of it: the questions, what is said of answers or by the check, or what shows a run that has ended
 abbrev pub IsPrintedAs : (List ℕ → Type 0) → BookRun → OwnEnd → List ℕ → Type 0
 IsPrintedAs Shows ran Asks text = IsOwnEnd ran Asks × (text ≡ ran.lacking.items)
 IsPrintedAs Shows ran Fails text = IsOwnEnd ran Fails × (text ≡ ran.faults.items)
+IsPrintedAs Shows ran Misses text = IsOwnEnd ran Misses × (text ≡ ran.wrong.items)
 IsPrintedAs Shows ran Ended text = IsOwnEnd ran Ended × Shows text
 
 -- what shows it: its events, whose head says which book they go by, or its time, where they are asked for, and else its account
@@ -72,30 +76,34 @@ StopsOutput show ran serve.Memory = Unit {0}
 StopsOutput show ran fault = ⊥
 
 -- the output is that of the run by this book
-pub record IsOwnOutput (o : RunOptions) (g : Shape) (book : List Entry) (end : Option OwnEnd) (output : List ℕ) : Type 0 where
+pub record IsOwnOutput (o : RunOptions) (check : Option Check) (g : Shape) (book : List Entry) (end : Option OwnEnd) (output : List ℕ)
+    : Type 0 where
   pub ran : BookRun
-  pub run : IsOwnRun o g book ran
+  pub run : IsOwnRun o check g book ran
   pub printed : IsOutputOf o.show book g ran end output
 
 -- nothing goes out of it, since its turns are used
-pub record IsOwnCutOff (o : RunOptions) (g : Shape) (book : List Entry) : Type 0 where
+pub record IsOwnCutOff (o : RunOptions) (check : Option Check) (g : Shape) (book : List Entry) : Type 0 where
   pub ran : BookRun
-  pub run : IsOwnRun o g book ran
+  pub run : IsOwnRun o check g book ran
   pub stops : StopsOutput o.show ran serve.TurnLimit
 
 -- why nothing goes out
-abbrev pub StopsOwn : RunOptions → Shape → List Entry → ServeFault → Type 0
-StopsOwn o g book serve.TurnLimit = IsOwnCutOff o g book
-StopsOwn o g book serve.Memory = Unit {0}
-StopsOwn o g book fault = ⊥
+abbrev pub StopsOwn : RunOptions → Option Check → Shape → List Entry → ServeFault → Type 0
+StopsOwn o check g book serve.TurnLimit = IsOwnCutOff o check g book
+StopsOwn o check g book serve.Memory = Unit {0}
+StopsOwn o check g book fault = ⊥
 
 -- what has gone out: all of the text, or only its first bytes, where a write failed; where the turns are used the events, if they are asked for,
 -- and else nothing
-abbrev pub HasRunOwn : RunOptions → Shape → List Entry → Option (List ℕ) → Option (List ℕ) → Result OwnEnd ServeFault → Type 0
-HasRunOwn o g book old new (Ok end) = (output : List ℕ) × IsOwnOutput o g book (Some end) output × HasWritten old new output (length output)
-HasRunOwn o g book old new (Err (serve.Write written)) =
-    (output : List ℕ) × ((end : Option OwnEnd) × IsOwnOutput o g book end output) × (written < length output) × HasWritten old new output written
-HasRunOwn o g book old new (Err serve.TurnLimit) =
-    ((output : List ℕ) × IsOwnOutput o g book None output × HasWritten old new output (length output)) ⊎ (IsOwnCutOff o g book × (new ≡ old))
-HasRunOwn o g book old new (Err serve.Memory) = new ≡ old
-HasRunOwn o g book old new (Err fault) = ⊥
+abbrev pub HasRunOwn : RunOptions → Option Check → Shape → List Entry → Option (List ℕ) → Option (List ℕ) → Result OwnEnd ServeFault → Type 0
+HasRunOwn o check g book old new (Ok end) =
+    (output : List ℕ) × IsOwnOutput o check g book (Some end) output × HasWritten old new output (length output)
+HasRunOwn o check g book old new (Err (serve.Write written)) =
+    (output : List ℕ) × ((end : Option OwnEnd) × IsOwnOutput o check g book end output) × (written < length output)
+    × HasWritten old new output written
+HasRunOwn o check g book old new (Err serve.TurnLimit) =
+    ((output : List ℕ) × IsOwnOutput o check g book None output × HasWritten old new output (length output))
+    ⊎ (IsOwnCutOff o check g book × (new ≡ old))
+HasRunOwn o check g book old new (Err serve.Memory) = new ≡ old
+HasRunOwn o check g book old new (Err fault) = ⊥

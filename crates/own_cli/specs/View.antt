@@ -27,11 +27,11 @@ pub record IsSound (ran : BookRun) : Type 0 where
 abbrev pub IsTrouble : BookRun → OwnEnd → List ℕ → Type 0
 IsTrouble ran Asks text = (ran.lacking.items ≢ []) × (text ≡ ran.lacking.items)
 IsTrouble ran Fails text = (ran.lacking.items ≡ []) × (ran.faults.items ≢ []) × (text ≡ ran.faults.items)
-IsTrouble ran Ended text = ⊥
+IsTrouble ran other text = ⊥
 
 -- the run that a seed of the options picks
 abbrev pub IsShownRun : ViewOptions → ℕ → Shape → List Entry → BookRun → Type 0
-IsShownRun o seed = IsSeedsRun seed o.turns o.wake
+IsShownRun o seed = IsSeedsRun seed o.turns o.wake None
 
 -- what goes out of the view of one run, to its end or to its last turn
 pub record IsOneView (o : ViewOptions) (g : Shape) (book : List Entry) (end : OwnEnd) (output : List ℕ) : Type 0 where

@@ -17,6 +17,7 @@ ghost use Rattle.std.specs.Prelude.{◌≡◌, ◌↔◌, false, true, IfErr, If
 
 use crate::run::{OwnEnd, OwnTold, end_of};
 use ghs_answers::fault::ServeFault;
+use ghs_choices::check::Check;
 use ghs_commands::job::StepsOptions;
 use ghs_gr::device::{Sink, Source};
 use ghs_gr::text::read_text;
@@ -132,12 +133,12 @@ fn shown(alloc: Global, name: &[u8]) -> Result<String, AllocError> {
 }
 
 /// Plays the stored run of a graph by a book again, writes what that comes to, and says how it ends: the questions that the book
-/// lacks; where it lacks none, what is said of nodes that have stopped by an answer; where none has, the account of the run. The
-/// text is made whole before its first byte goes out. Faults: the first event that isn't lawful; lack of memory; a run that
+/// lacks; where it lacks none, what is said of nodes that have stopped by an answer; where none has, what is wrong with the end by the
+/// check, or the account of the run. The text is made whole before its first byte goes out. Faults: the first event that isn't lawful; lack of memory; a run that
 /// hasn't ended; and then a write that fails.
 ///
 /// ```text
-/// let end = replay_by_book(alloc, WakeSet::All, graph, &rules, &events, &mut out)?;
+/// let end = replay_by_book(alloc, WakeSet::All, graph, &rules, &events, None, &mut out)?;
 /// // OwnEnd::Ended, and standard output has what `ghs run` has printed of that run
 /// ```
 pub fn replay_by_book<W: Sink>(
@@ -146,13 +147,14 @@ pub fn replay_by_book<W: Sink>(
     graph: Graph,
     rules: &Rulebook,
     events: &[Event],
+    check: Option<Check>,
     out: &mut W,
 ) -> Result<OwnEnd, ServeFault>
     requires { W.has_failed out.old ≡ false }
-    ensures replay { HasReplayedOwn wake graph rules.now events.now (W.held out.old) (W.held out.new) result }
+    ensures replay { HasReplayedOwn wake check graph rules.now events.now (W.held out.old) (W.held out.new) result }
     ensures write { IsUnwritten result ↔ (W.has_failed out.new ≡ true) }
 {
-    let told = told_again(alloc, wake, graph, rules, events)?;
+    let told = told_again(alloc, wake, graph, rules, events, check)?;
     write_out(out, &told.text)?;
     Ok(told.end)
 }
@@ -164,11 +166,12 @@ fn told_again(
     graph: Graph,
     rules: &Rulebook,
     events: &[Event],
+    check: Option<Check>,
 ) -> Result<OwnTold, ServeFault>
-    ensures text { IfOk result (λ told. IsAgainText wake graph rules.now events.now told.end told.text.items) }
-    ensures fault { IfErr result (StopsAgain wake graph rules.now events.now) }
+    ensures text { IfOk result (λ told. IsAgainText wake check graph rules.now events.now told.end told.text.items) }
+    ensures fault { IfErr result (StopsAgain wake check graph rules.now events.now) }
 {
-    let ran = replay_book(alloc, rules, graph, wake, events)?;
+    let ran = replay_book(alloc, rules, graph, wake, events, check)?;
     match end_of(&ran) {
         Some(end) => Ok(OwnTold {
             end,
@@ -186,6 +189,7 @@ fn account_at(end: OwnEnd, ran: BookRun) -> Vec<u8>
     match end {
         OwnEnd::Asks => ran.lacking,
         OwnEnd::Fails => ran.faults,
+        OwnEnd::Misses => ran.wrong,
         OwnEnd::Ended => ran.account,
     }
 }

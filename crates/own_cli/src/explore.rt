@@ -10,6 +10,7 @@ ghost use Rattle.std.specs.Prelude.{◌≡◌, ◌++◌, ◌↔◌, false, true,
 
 use crate::run::{OwnEnd, OwnTold};
 use ghs_answers::fault::ServeFault;
+use ghs_choices::check::Check;
 use ghs_commands::exploring::{ExploreOptions, Finding};
 use ghs_gr::device::Sink;
 use ghs_graph::graph::Graph;
@@ -31,7 +32,7 @@ use std::alloc::{AllocError, Global};
 /// more states than the limit, more parts than the search has numbers, lack of memory; no such row; and then a write that fails.
 ///
 /// ```text
-/// let end = explore_by_book(alloc, &options, &graph, book, &mut out)?;
+/// let end = explore_by_book(alloc, &options, &graph, book, None, &mut out)?;
 /// // of an empty book OwnEnd::Asks, and standard output has `own 1` and the openings of all nodes
 /// ```
 pub fn explore_by_book<W: Sink>(
@@ -39,14 +40,15 @@ pub fn explore_by_book<W: Sink>(
     options: &ExploreOptions,
     graph: &Graph,
     book: Book,
+    check: Option<Check>,
     out: &mut W,
 ) -> Result<OwnEnd, ServeFault>
     requires out { W.has_failed out.old ≡ false }
     requires limits { AreExploreLimits options.now }
-    ensures explored { HasExploredOwn options.now graph.now book (W.held out.old) (W.held out.new) result }
+    ensures explored { HasExploredOwn options.now check graph.now book (W.held out.old) (W.held out.new) result }
     ensures write { IsUnwritten result ↔ (W.has_failed out.new ≡ true) }
 {
-    let told = explored(alloc, options, graph, book)?;
+    let told = explored(alloc, options, graph, book, check)?;
     write_out(out, &told.text)?;
     Ok(told.end)
 }
@@ -57,14 +59,15 @@ fn explored(
     options: &ExploreOptions,
     graph: &Graph,
     book: Book,
+    check: Option<Check>,
 ) -> Result<OwnTold, ServeFault>
     requires { AreExploreLimits options.now }
-    ensures told { IfOk result (λ told. IsOwnExploration options.now graph.now book told.end told.text.items) }
-    ensures fault { IfErr result (HasNoOwnExploration options.now graph.now book) }
+    ensures told { IfOk result (λ told. IsOwnExploration options.now check graph.now book told.end told.text.items) }
+    ensures fault { IfErr result (HasNoOwnExploration options.now check graph.now book) }
 {
     let mark = mark_of(alloc, &book)?;
     let rules = Rulebook::of(alloc, book)?;
-    explored_under(alloc, options, graph, &mark, &rules)
+    explored_under(alloc, options, graph, &mark, &rules, check)
 }
 
 /// The same of a book that is ready to run, and has this mark.
@@ -74,11 +77,12 @@ fn explored_under(
     graph: &Graph,
     mark: &OwnMark,
     rules: &Rulebook,
+    check: Option<Check>,
 ) -> Result<OwnTold, ServeFault>
     requires limits { AreExploreLimits options.now }
     requires mark { mark.now ≡ mark_of_book rules.now }
-    ensures told { IfOk result (λ told. IsOwnExploration options.now graph.now rules.now told.end told.text.items) }
-    ensures fault { IfErr result (HasNoOwnExploration options.now graph.now rules.now) }
+    ensures told { IfOk result (λ told. IsOwnExploration options.now check graph.now rules.now told.end told.text.items) }
+    ensures fault { IfErr result (HasNoOwnExploration options.now check graph.now rules.now) }
 {
     match explore_book(
         alloc,
@@ -87,9 +91,10 @@ fn explored_under(
         options.wake,
         options.limit,
         row_asked(options),
+        check,
         &Unwatched,
     ) {
-        Ok(told) => told_as(alloc, options, graph, mark, rules, told),
+        Ok(told) => told_as(alloc, options, graph, mark, rules, check, told),
         Err(ExploreBookFault::Kinds) => Err(ServeFault::TooManyKinds),
         Err(ExploreBookFault::Network(ExploreFault::TooLarge)) => {
             Err(ServeFault::TooLargeToExplore)
@@ -120,12 +125,13 @@ fn told_as(
     graph: &Graph,
     mark: &OwnMark,
     rules: &Rulebook,
+    check: Option<Check>,
     told: BookExplored,
 ) -> Result<OwnTold, ServeFault>
     requires mark { mark.now ≡ mark_of_book rules.now }
-    requires told { IsToldBy options.now graph.now rules.now told }
-    ensures told { IfOk result (λ printed. IsOwnExploration options.now graph.now rules.now printed.end printed.text.items) }
-    ensures fault { IfErr result (HasNoOwnExploration options.now graph.now rules.now) }
+    requires told { IsToldBy options.now check graph.now rules.now told }
+    ensures told { IfOk result (λ printed. IsOwnExploration options.now check graph.now rules.now printed.end printed.text.items) }
+    ensures fault { IfErr result (HasNoOwnExploration options.now check graph.now rules.now) }
 {
     match told {
         BookExplored::Lacks(text) => Ok(OwnTold {
@@ -136,14 +142,18 @@ fn told_as(
             end: OwnEnd::Fails,
             text: failed(alloc, mark, failure)?,
         }),
+        BookExplored::Misses(failure) => Ok(OwnTold {
+            end: OwnEnd::Misses,
+            text: failed(alloc, mark, failure)?,
+        }),
         BookExplored::Whole(found) => Ok(OwnTold {
             end: OwnEnd::Ended,
-            text: found_text(alloc, options, graph, mark, rules, found)?,
+            text: found_text(alloc, options, graph, mark, rules, check, found)?,
         }),
     }
 }
 
-/// What is said of answers, and the events of a run that leads there.
+/// What is said of answers, or of an end, and the events of a run that leads there.
 fn failed(alloc: Global, mark: &OwnMark, failure: Failure) -> Result<Vec<u8>, AllocError>
     ensures { IfOk result (λ text. (book : List Entry) → mark.now ≡ mark_of_book book → text.items ≡ failure.text.items ++ leads_there ++ own_text (mark_of_book book) failure.events.items) }
 {
@@ -161,16 +171,17 @@ fn found_text(
     graph: &Graph,
     mark: &OwnMark,
     rules: &Rulebook,
+    check: Option<Check>,
     found: BookEnds,
 ) -> Result<Vec<u8>, ServeFault>
     requires mark { mark.now ≡ mark_of_book rules.now }
-    requires told { IsToldBy options.now graph.now rules.now (Whole found) }
+    requires told { IsToldBy options.now check graph.now rules.now (Whole found) }
     ensures text { IfOk result (λ text. IsFoundOwn options.now.finding rules.now found text.items) }
-    ensures fault { IfErr result (HasNoOwnExploration options.now graph.now rules.now) }
+    ensures fault { IfErr result (HasNoOwnExploration options.now check graph.now rules.now) }
 {
     match options.finding {
         Finding::Ends => Ok(found.text),
-        Finding::Run => run_text(alloc, options, graph, mark, rules, found),
+        Finding::Run => run_text(alloc, options, graph, mark, rules, check, found),
     }
 }
 
@@ -181,13 +192,14 @@ fn run_text(
     graph: &Graph,
     mark: &OwnMark,
     rules: &Rulebook,
+    check: Option<Check>,
     found: BookEnds,
 ) -> Result<Vec<u8>, ServeFault>
     requires asked { options.now.finding ≡ Finding.Run }
     requires mark { mark.now ≡ mark_of_book rules.now }
-    requires told { IsToldBy options.now graph.now rules.now (Whole found) }
+    requires told { IsToldBy options.now check graph.now rules.now (Whole found) }
     ensures text { IfOk result (λ text. IsFoundOwn options.now.finding rules.now found text.items) }
-    ensures fault { IfErr result (HasNoOwnExploration options.now graph.now rules.now) }
+    ensures fault { IfErr result (HasNoOwnExploration options.now check graph.now rules.now) }
 {
     let BookEnds { rows, text: _, run } = found;
     match run {

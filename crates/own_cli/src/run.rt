@@ -14,6 +14,7 @@ ghost use Rattle.std.specs.Prelude.{◌≡◌, ◌↔◌, false, true, IfErr, If
 
 use ghs_answers::fault::ServeFault;
 use ghs_answers::timing::time_text;
+use ghs_choices::check::Check;
 use ghs_choices::schedule_kind::ScheduleKind;
 use ghs_commands::job::{RunOptions, Show};
 use ghs_gr::device::Sink;
@@ -38,10 +39,12 @@ pub enum OwnEnd {
     Asks,
     /// A node has stopped by an answer, or the greeting is none.
     Fails,
+    /// It has ended otherwise than `--check` asks.
+    Misses,
 }
 
 impl OwnEnd {
-    /// The exit status: 0 where the run has ended, 7 where questions are open, 8 where an answer has a fault.
+    /// The exit status: 0 where the run has ended, 7 where questions are open, 8 where an answer has a fault, 9 where the end is wrong.
     pub fn status(self) -> u8
         ensures { result ≡ own_status self }
     {
@@ -49,6 +52,7 @@ impl OwnEnd {
             OwnEnd::Ended => 0,
             OwnEnd::Asks => 7,
             OwnEnd::Fails => 8,
+            OwnEnd::Misses => 9,
         }
     }
 }
@@ -69,12 +73,12 @@ struct OwnOutput {
 
 /// Runs a graph by a book, as the seed, the turns and the wake set of the options say, writes what that comes to, and says how it
 /// ends: the questions that the book lacks; where it lacks none, what is said of nodes that have stopped by an answer; where
-/// none has, the events of the run or its time if the options ask for them, and else its account. The text is made whole before its first
-/// byte goes out. Faults: lack of memory; the turns are used, where the events go out before if they are asked for, and else
+/// none has and the run has ended, what is wrong with its end by the check; where nothing is, the events of the run or its time if the
+/// options ask for them, and else its account. The text is made whole before its first byte goes out. Faults: lack of memory; the turns are used, where the events go out before if they are asked for, and else
 /// nothing; and a write that fails.
 ///
 /// ```text
-/// let end = run_by_book(alloc, &options, graph, book, &mut out)?;
+/// let end = run_by_book(alloc, &options, graph, book, None, &mut out)?;
 /// // of an empty book OwnEnd::Asks, and standard output has `own 1` and the openings of all nodes
 /// ```
 pub fn run_by_book<W: Sink>(
@@ -82,13 +86,14 @@ pub fn run_by_book<W: Sink>(
     options: &RunOptions,
     graph: Graph,
     book: Book,
+    check: Option<Check>,
     out: &mut W,
 ) -> Result<OwnEnd, ServeFault>
     requires out { W.has_failed out.old ≡ false }
-    ensures run { HasRunOwn options.now graph book (W.held out.old) (W.held out.new) result }
+    ensures run { HasRunOwn options.now check graph book (W.held out.old) (W.held out.new) result }
     ensures write { IsUnwritten result ↔ (W.has_failed out.new ≡ true) }
 {
-    let output = output_by(alloc, options, graph, book)?;
+    let output = output_by(alloc, options, graph, book, check)?;
     write_out(out, &output.text)?;
     match output.end {
         Some(end) => Ok(end),
@@ -102,13 +107,14 @@ fn output_by(
     options: &RunOptions,
     graph: Graph,
     book: Book,
+    check: Option<Check>,
 ) -> Result<OwnOutput, ServeFault>
-    ensures output { IfOk result (λ o. IsOwnOutput options.now graph book o.end o.text.items) }
-    ensures fault { IfErr result (StopsOwn options.now graph book) }
+    ensures output { IfOk result (λ o. IsOwnOutput options.now check graph book o.end o.text.items) }
+    ensures fault { IfErr result (StopsOwn options.now check graph book) }
 {
     let mark = mark_of(alloc, &book)?;
     let rules = Rulebook::of(alloc, book)?;
-    output_under(alloc, options, graph, &mark, &rules)
+    output_under(alloc, options, graph, &mark, &rules, check)
 }
 
 /// The same of a book that is ready to run, and has this mark.
@@ -118,10 +124,11 @@ fn output_under(
     graph: Graph,
     mark: &OwnMark,
     rules: &Rulebook,
+    check: Option<Check>,
 ) -> Result<OwnOutput, ServeFault>
     requires { mark.now ≡ mark_of_book rules.now }
-    ensures output { IfOk result (λ o. IsOwnOutput options.now graph rules.now o.end o.text.items) }
-    ensures fault { IfErr result (StopsOwn options.now graph rules.now) }
+    ensures output { IfOk result (λ o. IsOwnOutput options.now check graph rules.now o.end o.text.items) }
+    ensures fault { IfErr result (StopsOwn options.now check graph rules.now) }
 {
     // The run takes its graph; the time of the run wants it once more.
     let same = graph.copy(alloc)?;
@@ -132,6 +139,7 @@ fn output_under(
         options.wake,
         options.seed,
         options.turns,
+        check,
     )?;
     output_of(alloc, options.show, mark, rules, &same, ran)
 }
@@ -173,6 +181,9 @@ pub(crate) fn end_of(ran: &BookRun) -> Option<OwnEnd>
     if ran.at_limit {
         return None;
     }
+    if !ran.wrong.is_empty() {
+        return Some(OwnEnd::Misses);
+    }
     Some(OwnEnd::Ended)
 }
 
@@ -194,6 +205,7 @@ fn text_at(
     match end {
         OwnEnd::Asks => Ok(ran.lacking),
         OwnEnd::Fails => Ok(ran.faults),
+        OwnEnd::Misses => Ok(ran.wrong),
         OwnEnd::Ended => shown(alloc, show, mark, rules, graph, ran),
     }
 }

@@ -2,7 +2,7 @@
 ghost use Rattle.ghs_answers.specs.Causes.{IsUnwritten};
 ghost use Rattle.ghs_answers.specs.Sheets.{count_of, setup_of as setup_by};
 ghost use Rattle.ghs_commands.specs.Job.{AreSweepLimits};
-ghost use Rattle.own_cli.specs.Sweep.{HasNoOwnSweep, HasSweptOwn, IsOwnSweep, IsSheetOf, IsSoundRun, IsTroubleOf, IsTroubledAt, IsTroubledSweep, seed_line};
+ghost use Rattle.own_cli.specs.Sweep.{HasNoOwnSweep, HasSweptOwn, IsOwnSweep, IsQuiet, IsSheetOf, IsSoundRun, IsTroubleOf, IsTroubledAt, IsTroubledSweep, seed_line};
 ghost use Rattle.own_rules.specs.declared.protocol.TheConstants.{RUN_MESSAGES};
 ghost use Rattle.own_runs.specs.Sweep.{AreFiguresBy, layout_by};
 ghost use Rattle.peer_sweep.specs.Sweep.{AreRuns};
@@ -11,6 +11,7 @@ ghost use Rattle.std.specs.Prelude.{◌≡◌, ◌+◌, ◌++◌, ◌↔◌, [],
 use crate::run::{OwnEnd, OwnTold};
 use ghs_answers::fault::ServeFault;
 use ghs_answers::sheets::{put_head_of, put_sheet, setup_of};
+use ghs_choices::check::Check;
 use ghs_commands::job::SweepOptions;
 use ghs_commands::values::Seeds;
 use ghs_gr::device::Sink;
@@ -26,12 +27,12 @@ use peer_sweep::table::Table;
 use std::alloc::{AllocError, Global};
 
 /// Runs a graph by a book, seed by seed, and writes the figures of the runs, or what they come to, with a column for each kind of the
-/// greeting. It says how that ends: at the first seed whose run lacks an answer, or has a node that stopped by one, what that is goes
-/// out in their place. The text is made whole before its first byte goes out. Faults: the greeting has more than eight kinds; lack of
+/// greeting. It says how that ends: at the first seed whose run lacks an answer, has a node that stopped by one, or ends otherwise than the
+/// check asks, what that is goes out in their place. The text is made whole before its first byte goes out. Faults: the greeting has more than eight kinds; lack of
 /// memory; and then a write that fails.
 ///
 /// ```text
-/// let end = sweep_by_book(alloc, &options, &graph, &rules, &mut out)?;
+/// let end = sweep_by_book(alloc, &options, &graph, &rules, None, &mut out)?;
 /// // OwnEnd::Ended, and standard output has a line for each seed; of an empty book OwnEnd::Asks
 /// ```
 pub fn sweep_by_book<W: Sink>(
@@ -39,14 +40,15 @@ pub fn sweep_by_book<W: Sink>(
     options: &SweepOptions,
     graph: &Graph,
     rules: &Rulebook,
+    check: Option<Check>,
     out: &mut W,
 ) -> Result<OwnEnd, ServeFault>
     requires out { W.has_failed out.old ≡ false }
     requires limits { AreSweepLimits options.now }
-    ensures swept { HasSweptOwn options.now graph.now rules.now (W.held out.old) (W.held out.new) result }
+    ensures swept { HasSweptOwn options.now check graph.now rules.now (W.held out.old) (W.held out.new) result }
     ensures write { IsUnwritten result ↔ (W.has_failed out.new ≡ true) }
 {
-    let told = swept(alloc, options, graph, rules)?;
+    let told = swept(alloc, options, graph, rules, check)?;
     write_out(out, &told.text)?;
     Ok(told.end)
 }
@@ -57,18 +59,19 @@ fn swept(
     options: &SweepOptions,
     graph: &Graph,
     rules: &Rulebook,
+    check: Option<Check>,
 ) -> Result<OwnTold, ServeFault>
     requires { AreSweepLimits options.now }
-    ensures told { IfOk result (λ told. IsOwnSweep options.now graph.now rules.now told.end told.text.items) }
+    ensures told { IfOk result (λ told. IsOwnSweep options.now check graph.now rules.now told.end told.text.items) }
     ensures fault { IfErr result (HasNoOwnSweep rules.now) }
 {
     let table = table_of(alloc, rules)?;
     let mut runs = Vec::new(alloc);
-    match troubled(alloc, options, graph, rules, &mut runs)? {
+    match troubled(alloc, options, graph, rules, check, &mut runs)? {
         Some(told) => Ok(told),
         None => Ok(OwnTold {
             end: OwnEnd::Ended,
-            text: sheet_of(alloc, options, graph, rules, &table, &runs)?,
+            text: sheet_of(alloc, options, graph, rules, check, &table, &runs)?,
         }),
     }
 }
@@ -91,17 +94,27 @@ fn troubled(
     options: &SweepOptions,
     graph: &Graph,
     rules: &Rulebook,
+    check: Option<Check>,
     runs: &mut Vec<Figures>,
 ) -> Result<Option<OwnTold>, AllocError>
     requires limits { AreSweepLimits options.now }
     requires none { runs.old.items ≡ [] }
-    ensures some { IfOk result (λ found. IfSome found (λ told. IsTroubledSweep options.now graph.now rules.now told.end told.text.items)) }
-    ensures none { IfOk result (λ found. IfNone found (AreRuns (IsSoundRun rules.now) graph.now (setup_by options.now) options.now.seeds.first runs.new.items × (length runs.new.items ≡ count_of options.now))) }
+    ensures some { IfOk result (λ found. IfSome found (λ told. IsTroubledSweep options.now check graph.now rules.now told.end told.text.items)) }
+    ensures none { IfOk result (λ found. IfNone found (AreRuns (IsSoundRun rules.now check) graph.now (setup_by options.now) options.now.seeds.first runs.new.items × (length runs.new.items ≡ count_of options.now))) }
 {
     let Seeds { first, last } = options.seeds;
     let setup = setup_of(options);
     for done in 0..last - first + 1 {
-        if let Some(told) = next_run(alloc, setup, graph, rules, first, first + done, runs)? {
+        if let Some(told) = next_run(
+            alloc,
+            setup,
+            graph,
+            rules,
+            check,
+            first,
+            first + done,
+            runs,
+        )? {
             return Ok(Some(told));
         }
     }
@@ -114,16 +127,17 @@ fn next_run(
     setup: Setup,
     graph: &Graph,
     rules: &Rulebook,
+    check: Option<Check>,
     first: u64,
     seed: u64,
     runs: &mut Vec<Figures>,
 ) -> Result<Option<OwnTold>, AllocError>
-    requires before { AreRuns (IsSoundRun rules.now) graph.now setup first runs.old.items }
+    requires before { AreRuns (IsSoundRun rules.now check) graph.now setup first runs.old.items }
     requires next { seed ≡ first + length runs.old.items }
-    ensures some { IfOk result (λ found. IfSome found (λ told. IsTroubledAt rules.now graph.now setup first runs.old.items told.end told.text.items)) }
-    ensures none { IfOk result (λ found. IfNone found (AreRuns (IsSoundRun rules.now) graph.now setup first runs.new.items × (length runs.new.items ≡ length runs.old.items + 1))) }
+    ensures some { IfOk result (λ found. IfSome found (λ told. IsTroubledAt rules.now check graph.now setup first runs.old.items told.end told.text.items)) }
+    ensures none { IfOk result (λ found. IfNone found (AreRuns (IsSoundRun rules.now check) graph.now setup first runs.new.items × (length runs.new.items ≡ length runs.old.items + 1))) }
 {
-    let ran = figures_by_book(alloc, rules, graph, setup.wake, seed, setup.turns)?;
+    let ran = figures_by_book(alloc, rules, graph, setup.wake, seed, setup.turns, check)?;
     match trouble_of(alloc, seed, &ran)? {
         Some(told) => Ok(Some(told)),
         None => {
@@ -136,7 +150,7 @@ fn next_run(
 /// What is printed of the run of a seed that isn't sound.
 fn trouble_of(alloc: Global, seed: u64, ran: &BookFigures) -> Result<Option<OwnTold>, AllocError>
     ensures some { IfOk result (λ found. IfSome found (λ told. IsTroubleOf seed ran.now told.end told.text.items)) }
-    ensures none { IfOk result (λ found. IfNone found ((length ran.now.lacking.items ≡ 0) × (length ran.now.faults.items ≡ 0))) }
+    ensures none { IfOk result (λ found. IfNone found (IsQuiet ran.now)) }
 {
     if !ran.lacking.is_empty() {
         return Ok(Some(OwnTold {
@@ -150,10 +164,16 @@ fn trouble_of(alloc: Global, seed: u64, ran: &BookFigures) -> Result<Option<OwnT
             text: failed(alloc, seed, &ran.faults)?,
         }));
     }
+    if ran.figures.ended && !ran.wrong.is_empty() {
+        return Ok(Some(OwnTold {
+            end: OwnEnd::Misses,
+            text: failed(alloc, seed, &ran.wrong)?,
+        }));
+    }
     Ok(None)
 }
 
-/// The seed, and what is said of answers in its run.
+/// The seed, and what is said of answers in its run, or of its end.
 #[tactic(auto, unfolding(crate::specs::Sweep::seed_line))]
 fn failed(alloc: Global, seed: u64, faults: &[u8]) -> Result<Vec<u8>, AllocError>
     ensures { IfOk result (λ text. text.items ≡ seed_line seed ++ faults.now) }
@@ -172,14 +192,15 @@ fn sheet_of(
     options: &SweepOptions,
     graph: &Graph,
     rules: &Rulebook,
+    check: Option<Check>,
     table: &Table,
     runs: &[Figures],
 ) -> Result<Vec<u8>, AllocError>
     requires limits { AreSweepLimits options.now }
     requires table { table.now ≡ layout_by rules.now }
-    requires runs { AreRuns (IsSoundRun rules.now) graph.now (setup_by options.now) options.now.seeds.first runs.now }
+    requires runs { AreRuns (IsSoundRun rules.now check) graph.now (setup_by options.now) options.now.seeds.first runs.now }
     requires all { length runs.now ≡ count_of options.now }
-    ensures { IfOk result (λ text. IsSheetOf options.now graph.now rules.now text.items) }
+    ensures { IfOk result (λ text. IsSheetOf options.now check graph.now rules.now text.items) }
 {
     let mut text = Vec::new(alloc);
     put_head_of(&mut text, table, options)?;

@@ -94,7 +94,7 @@ fn run_of(
 ) -> Result<BookRun, AllocError>
     ensures { IfOk result (IsShownRun options.now seed graph rules.now) }
 {
-    run_book(alloc, rules, graph, options.wake, seed, options.turns)
+    run_book(alloc, rules, graph, options.wake, seed, options.turns, None)
 }
 
 /// A run that the book lacks no answer in, and in which no node has stopped by one; of another what is printed of it.

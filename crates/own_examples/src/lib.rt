@@ -7,6 +7,8 @@ mod answers;
 #[cfg(test)]
 mod books;
 #[cfg(test)]
+mod checks;
+#[cfg(test)]
 mod judged;
 #[cfg(test)]
 mod orders;

@@ -46,7 +46,7 @@ fn check(
 fn ran(alloc: Global, book: &[u8]) -> Option<BookRun> {
     let graph = graph_of(alloc, PAIR)?;
     let rules = Rulebook::of(alloc, read_book(alloc, book).ok()?).ok()?;
-    run_book(alloc, &rules, graph, WakeSet::First, 7, 100).ok()
+    run_book(alloc, &rules, graph, WakeSet::First, 7, 100, None).ok()
 }
 
 fn are_stopped(ran: &BookRun, nodes: &[u32]) -> bool {

@@ -100,7 +100,7 @@ fn fitting(alloc: Global, book: &[u8], text: &[u8]) -> Option<Result<(), Misfit>
 fn replayed(alloc: Global, events: &[Event]) -> Option<Result<BookRun, ReplayFault>> {
     let rules = rules(alloc, PINGS)?;
     let graph = graph_of(alloc, PAIR)?;
-    Some(replay_book(alloc, &rules, graph, WakeSet::First, events))
+    Some(replay_book(alloc, &rules, graph, WakeSet::First, events, None))
 }
 
 fn assert_steps(rt: &impl Abort, alloc: Global) {

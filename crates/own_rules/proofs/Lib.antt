@@ -6,4 +6,5 @@ mod Readying
 pub mod Stopping
 pub mod Running
 pub mod Valued
+mod Checking
 mod Worked

@@ -1,5 +1,5 @@
 -- What a world has run through that was opened and run on by the schedule of a seed.
-use Rattle.std.proofs.Common.{◌≡◌, ◌∙◌, ◌<◌, ◌≤◌, ℕ, Bool, false, true, inl, length, List, [], Result, Ok, Err, IfOk, refl, subst, sym}
+use Rattle.std.proofs.Common.{◌≡◌, ◌∙◌, ◌<◌, ◌≤◌, ℕ, Bool, false, true, inl, length, List, [], Option, Result, Ok, Err, IfOk, refl, subst, sym}
 use Rattle.ghs_graph.specs.Graph.{Shape}
 use Rattle.peer_machine.specs.Rules.{Rules}
 use Rattle.peer_machine.specs.Run.{IsRunUnder, net_after}
@@ -16,6 +16,8 @@ use Rattle.peer_runs.specs.WorldState.{WorldState, ready_events, wakers}
 use Rattle.peer_schedule.specs.Schedule.{seeded}
 use Rattle.own_book.specs.Entry.{Entry}
 use Rattle.own_rules.specs.Faults.{faults}
+use Rattle.ghs_choices.specs.declared.check.Check.{Check}
+use Rattle.own_rules.specs.Check.{IsChecked}
 use Rattle.own_rules.specs.Run.{IsRunOf, IsTold, StandsSo}
 use Rattle.own_rules.specs.Stops.{lacking, stops_in}
 use Rattle.own_rules.specs.declared.node.Node.{Node}
@@ -73,19 +75,22 @@ both (Ok it) P Q p q = (p, q)
 both (Err e) P Q p q = tt
 
 -- what is told of a world's run is told of these events of the graph
-pub told_of_run : {M E : Type 0} (r : Rules Node M) (name : ℕ → List ℕ) (bound : Shape → ℕ) (book : List Entry) (h g : Shape) → h ≡ g →
-    (x : Result BookRun E) → IfOk x (IsTold r name bound book h) → IfOk x (IsTold r name bound book g)
-told_of_run r name bound book h g same (Ok it) told = subst (λ k. IsTold r name bound book k it) same told
-told_of_run r name bound book h g same (Err e) told = tt
+pub told_of_run : {M E : Type 0} (r : Rules Node M) (name : ℕ → List ℕ) (bound : Shape → ℕ) (book : List Entry)
+    (check : Option Check) (h g : Shape) → h ≡ g → (x : Result BookRun E) → IfOk x (IsTold r name bound book check h) →
+    IfOk x (IsTold r name bound book check g)
+told_of_run r name bound book check h g same (Ok it) told = subst (λ k. IsTold r name bound book check k it) same told
+told_of_run r name bound book check h g same (Err e) told = tt
 
 -- what is told of a net is told of its graph and events
-pub told_here : {M : Type 0} (r : Rules Node M) (name : ℕ → List ℕ) (bound : Shape → ℕ) (book : List Entry) (n : NetState) (ran : BookRun) →
-    ran.events.items ≡ n.trace → ran.stops.items ≡ stops_in (net_of r n).node n.graph.nodes →
+pub told_here : {M : Type 0} (r : Rules Node M) (name : ℕ → List ℕ) (bound : Shape → ℕ) (book : List Entry)
+    (check : Option Check) (n : NetState) (ran : BookRun) → ran.events.items ≡ n.trace → ran.stops.items ≡ stops_in (net_of r n).node n.graph.nodes →
     ran.lacking.items ≡ lacking book n.graph ran.stops.items → ran.faults.items ≡ faults book n.graph ran.stops.items →
-    ran.account.items ≡ account_lines r name bound n.graph (net_of r n) → IsTold r name bound book n.graph ran
-told_here r name bound book n ran same stops lacking faults account = record {
+    ran.account.items ≡ account_lines r name bound n.graph (net_of r n) → IsChecked book n.graph (net_of r n).node check ran.wrong.items →
+    IsTold r name bound book check n.graph ran
+told_here r name bound book check n ran same stops lacking faults account wrong = record {
   stops = subst (λ ts. ran.stops.items ≡ stops_in (net_after r n.graph ts).node n.graph.nodes) (sym same) stops;
   lacking = lacking;
   faults = faults;
   account = subst (λ ts. ran.account.items ≡ account_lines r name bound n.graph (net_after r n.graph ts)) (sym same) account;
+  wrong = subst (λ ts. IsChecked book n.graph (net_after r n.graph ts).node check ran.wrong.items) (sym same) wrong;
 }

@@ -1,8 +1,7 @@
 -- The values of a message, cut at commas outside brackets, and their bits.
-use Rattle.std.proofs.Common.{◌≡◌, ℕ, suc, Bool, cond, ◌+◌, ◌*◌, ◌-◌, ◌^◌, ◌<◌, ◌≤◌, true, false, List, [], ◌∷◌, ◌++◌, take, drop, length, min, find, ap, sym, ◌∙◌, refl, arith, ⊎_elim}
+use Rattle.std.proofs.Common.{◌≡◌, ℕ, suc, Bool, cond, ◌+◌, ◌*◌, ◌-◌, ◌^◌, ◌<◌, ◌≤◌, true, false, List, [], ◌∷◌, ◌++◌, take, drop, length, min, ap, sym, ◌∙◌, refl, arith, ⊎_elim}
 use Rattle.std.specs.Prelude.{◌==◌, ◌&&◌, ◌⊎◌}
 use Rattle.std.specs.List.{onto_first, slice_index_or}
-use Rattle.std.specs.Str.{bytes_eq}
 use Rattle.std.proofs.Math.Pow.{pow_mono}
 use Rattle.std.proofs.Math.Seq.{drop-length}
 use Rattle.std.proofs.lemmas.Bool.{cases_lt, cond-true, cond-false}
@@ -11,12 +10,12 @@ use Rattle.std.proofs.lemmas.List.{append-nil, drop_more, take_more, take-append
 use Rattle.ghs_bits.specs.Laws.{IsWidth}
 use Rattle.ghs_bits.specs.Length.{width_of}
 use Rattle.ghs_bits.specs.declared.widths.Widths.{Widths}
-use Rattle.own_book.specs.Answer.{kinds_in, types_in}
+use Rattle.own_book.specs.Answer.{types_in}
 use Rattle.own_book.specs.Parts.{cut_at}
 use Rattle.own_book.specs.Sends.{kind_in}
 use Rattle.own_book.specs.declared.kind.ArgumentType.{ArgumentType}
-use Rattle.own_rules.specs.Bits.{argument_bits, arguments_bits, closes_bracket, deeper, message_bits, opens_bracket, types_at, values_from, values_in}
-use Rattle.own_rules.specs.Texts.{Text, kinds_many}
+use Rattle.own_rules.specs.Bits.{argument_bits, arguments_bits, closes_bracket, deeper, message_bits, opens_bracket, values_from, values_in}
+use Rattle.own_rules.specs.Texts.{Text, kinds_many, types_of}
 
 -- bytes in front of the first of some values
 abbrev pub in_front : Text → List Text → List Text
@@ -102,17 +101,16 @@ module _ (w : Widths) (count : ℕ) where
       is
 
   pub message_is : (kinds message greeted name types values : Text) (many wide bits all : ℕ) → greeted ≡ kinds →
-      name ≡ kind_in message (cut_at 40 message) → types_in types ≡ types_at (find (λ k. bytes_eq k.0 name) (kinds_in greeted)) →
+      name ≡ kind_in message (cut_at 40 message) → types ≡ types_of greeted name →
       (values_in (cut_at 40 message) ≡ values_from 0 values) ⊎ ((values_in (cut_at 40 message) ≡ []) × (values ≡ [])) →
       bits ≡ min 4294967295 (arguments_bits w count (types_in types) (values_from 0 values)) → many ≡ kinds_many kinds →
       wide ≡ width_of (many - 1) → all ≡ min (wide + bits) 4294967295 → all ≡ message_bits w count kinds message
   message_is kinds message greeted name types values many wide bits all is named typed valued measured counted width sum =
       let kind = kind_in message (cut_at 40 message) in
-      let ts = types_at (find (λ k. bytes_eq k.0 kind) (kinds_in kinds)) in
+      let ts = types_in (types_of kinds kind) in
       let vs = values_in (cut_at 40 message) in
       let same : types_in types ≡ ts =
-      typed ∙ ap (λ n. types_at (find (λ k. bytes_eq k.0 n) (kinds_in greeted))) named
-      ∙ ap (λ g. types_at (find (λ k. bytes_eq k.0 kind) (kinds_in g))) is in
+      ap types_in (typed ∙ ap (types_of greeted) named ∙ ap (λ g. types_of g kind) is) in
       let left : arguments_bits w count (types_in types) (values_from 0 values) ≡ arguments_bits w count ts vs =
       sym (left_values (types_in types) vs values valued) ∙ ap (λ t. arguments_bits w count t vs) same in
       let front : wide ≡ width_of (kinds_many kinds - 1) = width ∙ ap (λ n. width_of (n - 1)) counted in

@@ -1,16 +1,16 @@
 -- How many bits a message of a book has.
-use Rattle.std.specs.Prelude.{ℕ, suc, ◌+◌, ◌-◌, ◌*◌, ◌==◌, ◌&&◌, ◌||◌, Bool, cond, count_by, find, length, min, codes, List, [], ◌∷◌, Option, Some, None}
+use Rattle.std.specs.Prelude.{ℕ, suc, ◌+◌, ◌-◌, ◌*◌, ◌==◌, ◌&&◌, ◌||◌, Bool, cond, count_by, length, min, codes, List, [], ◌∷◌, Option, Some, None}
 use Rattle.std.specs.List.{onto_first}
 use Rattle.std.specs.Str.{bytes_eq}
 use Rattle.ghs_graph.specs.Graph.{Shape}
 use Rattle.ghs_bits.specs.Length.{key_width, width_of, widths_of}
 use Rattle.ghs_bits.specs.declared.widths.Widths.{Widths}
 use Rattle.own_book.specs.Sends.{kind_in}
-use Rattle.own_book.specs.Answer.{kinds_in, types_in}
+use Rattle.own_book.specs.Answer.{types_in}
 use Rattle.own_book.specs.Parts.{closed, cut_at}
 use Rattle.own_book.specs.declared.kind.ArgumentType.{ArgumentType}
 use Rattle.own_book.specs.declared.kind.ArgumentType.TheVariants as type
-use Rattle.own_rules.specs.Texts.{Text, kinds_many}
+use Rattle.own_rules.specs.Texts.{Text, kinds_many, types_of}
 
 -- by widths of numbers, weights and levels, and by that of the number of links
 abbrev pub argument_bits : Widths → ℕ → ArgumentType → Text → ℕ
@@ -53,16 +53,12 @@ arguments_bits w count [] values = 0
 arguments_bits w count (t ∷ ts) [] = argument_bits w count t [] + arguments_bits w count ts []
 arguments_bits w count (t ∷ ts) (value ∷ values) = argument_bits w count t value + arguments_bits w count ts values
 
-abbrev pub types_at : Option (Text × Text) → List ArgumentType
-types_at None = []
-types_at (Some (name, types)) = types_in types
-
 -- those that say which kind it is, and those of its arguments; 4,294,967,295 at most
 abbrev pub message_bits : Widths → ℕ → Text → Text → ℕ
 message_bits w count kinds message =
     min 4294967295
     (width_of (kinds_many kinds - 1)
-    + arguments_bits w count (types_at (find (λ k. bytes_eq k.0 (kind_in message (cut_at 40 message))) (kinds_in kinds)))
+    + arguments_bits w count (types_in (types_of kinds (kind_in message (cut_at 40 message))))
     (values_in (cut_at 40 message)))
 
 abbrev pub bits_of : Text → Shape → Text → ℕ

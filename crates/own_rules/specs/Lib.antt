@@ -18,3 +18,4 @@ pub mod Kept
 pub mod Lacks
 pub mod Face
 pub mod Exploring
+pub mod Check

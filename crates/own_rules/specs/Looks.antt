@@ -1,10 +1,8 @@
 -- What a page is told of a book's protocol, besides its words.
-use Rattle.std.specs.Prelude.{ℕ, Bool, not, ◌==◌, codes, find, slice_index_or, unwrap_or, ◌++◌, List, [], ◌∷◌, Option, Some, None}
+use Rattle.std.specs.Prelude.{ℕ, Bool, not, ◌==◌, codes, find, slice_index_or, unwrap_or, ◌++◌, List, [], ◌∷◌}
 use Rattle.std.specs.List.{list_any}
-use Rattle.std.specs.Str.{bytes_eq}
-use Rattle.own_book.specs.Answer.{kinds_in}
 use Rattle.own_book.specs.Entry.{Entry}
-use Rattle.own_rules.specs.Texts.{Text, kinds_of, name_of, names_of}
+use Rattle.own_rules.specs.Texts.{Text, kinds_of, name_of, names_of, types_of}
 use Rattle.own_rules.specs.declared.looks.TheConstants.{LOOK, NAMELESS}
 use Rattle.peer_words.specs.Json.{member, next, quoted}
 use Rattle.peer_words.specs.Looks.{Looks}
@@ -15,14 +13,6 @@ is_free used letter = not (list_any (λ b. letter == b) used)
 
 abbrev pub letter_of : Text → Text → ℕ
 letter_of used name = unwrap_or (find (is_free used) name) (slice_index_or name 0 45)
-
--- the types of a kind's arguments, as the greeting spells them
-abbrev pub types_told : Option (Text × Text) → Text
-types_told None = []
-types_told (Some (name, types)) = types
-
-abbrev pub types_of : Text → Text → Text
-types_of kinds name = types_told (find (λ k. bytes_eq k.0 name) (kinds_in kinds))
 
 -- a kind has the same name everywhere, its letter, and its types, by which the page knows its bits
 unfoldable pub look_of : Text → ℕ → Text → Text

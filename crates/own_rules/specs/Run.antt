@@ -1,7 +1,9 @@
 -- What a run by a book is, and what is told of it.
-use Rattle.std.specs.Prelude.{◌≡◌, ℕ, ◌*◌, ◌<◌, ◌≤◌, Bool, false, true, length, List, []}
+use Rattle.std.specs.Prelude.{◌≡◌, ℕ, ◌*◌, ◌<◌, ◌≤◌, Bool, false, true, length, List, [], Option}
+use Rattle.ghs_choices.specs.declared.check.Check.{Check}
 use Rattle.ghs_graph.specs.Graph.{Shape}
 use Rattle.own_book.specs.Entry.{Entry}
+use Rattle.own_rules.specs.Check.{IsChecked}
 use Rattle.own_rules.specs.Faults.{faults}
 use Rattle.own_rules.specs.Rules.{rules_of}
 use Rattle.own_rules.specs.Stops.{lacking, stops_in}
@@ -31,12 +33,15 @@ abbrev pub StandsSo : {S M : Type 0} → Rules S M → ℕ → Shape → WakeSet
 StandsSo r turns g wake events true = (turns ≤ length events) × (0 < length (lawful_events r (may_wake g wake) g events))
 StandsSo r turns g wake events false = lawful_events r (may_wake g wake) g events ≡ []
 
--- where nodes have stopped after the events, which questions the book lacks, what is said of the others, and the account of messages
-pub record IsTold {M : Type 0} (r : Rules Node M) (name : ℕ → Text) (bound : Shape → ℕ) (book : List Entry) (g : Shape) (ran : BookRun) : Type 0 where
+-- where nodes have stopped after the events, which questions the book lacks, what is said of the others, the account of messages, and what is
+-- wrong with the end by a check
+pub record IsTold {M : Type 0} (r : Rules Node M) (name : ℕ → Text) (bound : Shape → ℕ) (book : List Entry) (check : Option Check) (g : Shape)
+    (ran : BookRun) : Type 0 where
   pub stops : ran.stops.items ≡ stops_in (net_after r g ran.events.items).node g.nodes
   pub lacking : ran.lacking.items ≡ lacking book g ran.stops.items
   pub faults : ran.faults.items ≡ faults book g ran.stops.items
   pub account : ran.account.items ≡ account_lines r name bound g (net_after r g ran.events.items)
+  pub wrong : IsChecked book g (net_after r g ran.events.items).node check ran.wrong.items
 
 -- by the rules of this book, where each node may send and defer so many messages
 abbrev pub IsRunBy : List Entry → ℕ → ℕ → ℕ → Shape → WakeSet → List Event → Type 0
@@ -45,5 +50,5 @@ IsRunBy book most = IsRunOf (rules_of book most)
 abbrev pub StandsBy : List Entry → ℕ → ℕ → Shape → WakeSet → List Event → Bool → Type 0
 StandsBy book most = StandsSo (rules_of book most)
 
-abbrev pub IsToldBy : List Entry → ℕ → Shape → BookRun → Type 0
+abbrev pub IsToldBy : List Entry → ℕ → Option Check → Shape → BookRun → Type 0
 IsToldBy book most = IsTold (rules_of book most) (kind_name book) (λ g. g.nodes * most) book

@@ -1,5 +1,5 @@
 -- The texts of a book: the states and messages that its answers say, each with a number, and the kinds of its messages.
-use Rattle.std.specs.Prelude.{ℕ, codes, fold, map, List, [], ◌∷◌, ◌++◌, ◌-◌, suc, length, Option, Some, None, Result, Ok, Err, position, unwrap_or, slice_index_or, if◌then◌else◌}
+use Rattle.std.specs.Prelude.{ℕ, codes, find, fold, map, List, [], ◌∷◌, ◌++◌, ◌-◌, suc, length, Option, Some, None, Result, Ok, Err, position, unwrap_or, slice_index_or, if◌then◌else◌}
 use Rattle.std.specs.List.{flat_map, list_any, position_or_len}
 use Rattle.std.specs.Str.{bytes_eq}
 use Rattle.own_book.specs.Sends.{kind_in}
@@ -75,6 +75,14 @@ name_of book = name_told (told_in book (codes "own 1"))
 -- the name of each kind, once
 abbrev pub names_of : Text → List Text
 names_of kinds = fold noted [] (map (λ (k : Text × Text). k.0) (kinds_in kinds))
+
+-- the types of the arguments of the first kind with a name, as the greeting spells them
+abbrev pub types_told : Option (Text × Text) → Text
+types_told None = []
+types_told (Some (name, types)) = types
+
+abbrev pub types_of : Text → Text → Text
+types_of kinds name = types_told (find (λ k. bytes_eq k.0 name) (kinds_in kinds))
 
 -- how many kinds there are, one at least
 abbrev pub kinds_many : Text → ℕ

@@ -1,20 +1,20 @@
 //! The lengths of the messages of a book.
 ghost use Rattle.ghs_bits.specs.Length.{key_width, width_of as width_of_number};
-ghost use Rattle.own_book.specs.Answer.{are_kinds, are_types, kinds_in, types_in};
+ghost use Rattle.own_book.specs.Answer.{are_types, types_in};
 ghost use Rattle.own_book.specs.Parts.{closed as closed_of, cut_at};
-ghost use Rattle.own_rules.specs.Bits.{argument_bits as bits_of_argument, arguments_bits as bits_of_arguments, closes_bracket, deeper as depth_after, message_bits as bits_of_message, opens_bracket, types_at, values_closed, values_from, values_in};
+ghost use Rattle.own_rules.specs.Bits.{argument_bits as bits_of_argument, arguments_bits as bits_of_arguments, closes_bracket, deeper as depth_after, message_bits as bits_of_message, opens_bracket, values_closed, values_from, values_in};
 ghost use Rattle.own_rules.specs.Texts.{kinds_of};
-ghost use Rattle.std.specs.Prelude.{IfNone, IfSome, [], count_by, drop, find, length, min, take, true, ◌&&◌, ◌+◌, ◌<◌, ◌==◌, ◌≡◌, ◌≤◌, ◌∷◌, ◌⊎◌, ◌^◌};
-ghost use Rattle.std.specs.Str.{bytes_eq};
+ghost use Rattle.std.specs.Prelude.{IfNone, IfSome, [], count_by, drop, length, min, take, true, ◌&&◌, ◌+◌, ◌<◌, ◌==◌, ◌≡◌, ◌≤◌, ◌∷◌, ◌⊎◌, ◌^◌};
 
 use crate::node::Message;
 use crate::protocol::{Chosen, Playing, Told};
 use crate::rulebook::{Rulebook, kind_name};
 use crate::spoken::closed;
+use crate::texts::types_of;
 use ghs_bits::laws::law_widths;
 use ghs_bits::widths::Widths;
 use ghs_graph::graph::Graph;
-use own_book::kind::{ArgumentType, next_kind, next_type};
+use own_book::kind::{ArgumentType, next_type};
 use own_book::parts::cut;
 use peer_machine::measured::Measured;
 
@@ -67,25 +67,9 @@ fn width_of(n: usize) -> u32
 fn message_bits(rules: &Rulebook, widths: Widths, count: u32, text: &[u8]) -> u32
     ensures { result ≡ bits_of_message widths count (kinds_of rules.now) text.now }
 {
-    let types = types_among(rules.greeted(), kind_name(text));
+    let types = types_of(rules.greeted(), kind_name(text));
     let arguments = arguments_bits(widths, count, types, values(text));
     width_of(rules.kinds() - 1).saturating_add(arguments)
-}
-
-/// The types of the values of the first of these kinds that has this name; none where there is no such kind.
-fn types_among<'a>(kinds: &'a [u8], name: &[u8]) -> &'a [u8]
-    requires { are_kinds kinds.now ≡ true }
-    ensures types { types_in result.now ≡ types_at (find (λ k. bytes_eq k.0 name.now) (kinds_in kinds.now)) }
-    ensures readable { are_types result.now ≡ true }
-{
-    let mut rest = kinds;
-    'kinds: while let Some((kind, after)) = next_kind(rest) {
-        if kind.name == name {
-            return kind.types;
-        }
-        rest = after;
-    }
-    b""
 }
 
 /// What stands in the brackets of a message; no bytes where it has no values.

@@ -12,16 +12,19 @@
 //! that a type names (`Chosen`), which a call picks when a run begins: `run_book` gives the events that a seed's schedule picks
 //! of a graph by the rules of this very book, to the end or to the last turn (`IsRunBy`), and the code that runs it knows no book;
 //! what is told of it is exact (`IsTold`): the nodes that have stopped then, the questions that the book lacks, what is said of nodes
-//! that have stopped by an answer, and how many messages were sent. `Told` is `Spoken`: a message has its kind and all that stands in
+//! that have stopped by an answer, how many messages were sent, and what is wrong with the end by a check that was asked for
+//! (`IsChecked`): marks of the minimum spanning forest or of a spanning forest, one leader in each component, or that all nodes have
+//! halted. `Told` is `Spoken`: a message has its kind and all that stands in
 //! its brackets, a node the variables of its state and the words of `marks`, and the row says what the book did. `Told` is
 //! `Measured`: a message has the bits that the types of its kind give to its values (`bits_of`), 4,294,967,295 at most.
 //!
 //! Not claimed: that the book is the answers of a program. Questions are compared field by field: that the entry that answers is
 //! the one whose question has the very text that is asked, isn't proved here. Read `specs/Rules.antt` and `specs/Deed.antt` first,
-//! then `specs/Run.antt`, `specs/Stops.antt`, `specs/Faults.antt`, `specs/Words.antt` and `specs/Bits.antt`.
+//! then `specs/Run.antt`, `specs/Check.antt`, `specs/Stops.antt`, `specs/Faults.antt`, `specs/Words.antt` and `specs/Bits.antt`.
 #![tactic(auto)]
 
 mod bits;
+pub mod check;
 mod deed;
 pub mod explorable;
 mod face;

@@ -1,14 +1,13 @@
 //! What a page is told of a book's protocol, besides its words.
 ghost use Rattle.own_book.specs.Answer.{are_kinds, saying};
 ghost use Rattle.own_book.specs.declared.question.Asked.TheVariants.{Greeting};
-ghost use Rattle.own_rules.specs.Looks.{is_free, letter_of, look_of, looks_in, title_of, titled, types_of};
+ghost use Rattle.own_rules.specs.Looks.{is_free, letter_of, look_of, looks_in, title_of, titled};
 ghost use Rattle.own_rules.specs.Texts.{name_greeted, name_of as name_of_book, names_of};
 ghost use Rattle.std.specs.Prelude.{IfOk, find, slice_index_or, true, ◌≡◌};
 
-use crate::texts::Texts;
+use crate::texts::{Texts, types_of};
 use own_book::answer::{Answer, read_answer};
 use own_book::book::Book;
-use own_book::kind::next_kind;
 use own_book::question::Asked;
 use peer_words::json::put_word_member;
 use std::alloc::{AllocError, Global};
@@ -101,21 +100,6 @@ fn is_free(used: &[u8], letter: u8) -> bool
     ensures { result ≡ is_free used.now letter }
 {
     !used.contains(&letter)
-}
-
-/// The types of the kind with this name.
-fn types_of<'k>(kinds: &'k [u8], name: &[u8]) -> &'k [u8]
-    requires { are_kinds kinds.now ≡ true }
-    ensures { result.now ≡ types_of kinds.now name.now }
-{
-    let mut rest = kinds;
-    'kinds: while let Some((kind, after)) = next_kind(rest) {
-        if kind.name == name {
-            return kind.types;
-        }
-        rest = after;
-    }
-    b""
 }
 
 /// What is told of one kind. Refusal: out of memory.

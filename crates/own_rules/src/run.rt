@@ -7,11 +7,13 @@ ghost use Rattle.peer_report.specs.Account.{account_lines};
 ghost use Rattle.peer_runs.specs.WorldState.{wakers};
 ghost use Rattle.std.specs.Prelude.{IfOk, [], ◌≡◌};
 
+use crate::check::check_text;
 use crate::faults::faults_text;
 use crate::node::{Node, Stop};
 use crate::protocol::{Chosen, Playing, RUN_MESSAGES, Told};
 use crate::rulebook::Rulebook;
 use crate::stops::{lacking_text, stops_of};
+use ghs_choices::check::Check;
 use ghs_graph::graph::Graph;
 use peer_machine::protocol::Protocol;
 use peer_net::net::Net;
@@ -41,13 +43,15 @@ pub struct BookRun {
     pub faults: Vec<u8>,
     /// The lines `m` and `s`: how many messages were sent of each kind, and of all, with the bound on them.
     pub account: Vec<u8>,
+    /// What is wrong with the net after its last event, by the check that was asked for: one line, or no bytes.
+    pub wrong: Vec<u8>,
 }
 
-/// The run by a book that a seed picks, to its end or to its last turn, and what is told of it. Each node sends and defers
-/// `RUN_MESSAGES` messages at most. Refusal: out of memory.
+/// The run by a book that a seed picks, to its end or to its last turn, and what is told of it and of its end by a check. Each node
+/// sends and defers `RUN_MESSAGES` messages at most. Refusal: out of memory.
 ///
 /// ```text
-/// let ran = run_book(alloc, &rules, graph, WakeSet::All, 7, 1 << 40)?;
+/// let ran = run_book(alloc, &rules, graph, WakeSet::All, 7, 1 << 40, None)?;
 /// // ran.events is all that seed 7 picks by the rules of this very book; of an empty book, and the nodes 1 and 2 with a link of
 /// // weight 5, ran.lacking is b"own 1\nopen 1 5:1-2\nopen 2 5:1-2\n"
 /// ```
@@ -58,12 +62,13 @@ pub fn run_book(
     wake: WakeSet,
     seed: u64,
     turns: u64,
+    check: Option<Check>,
 ) -> Result<BookRun, AllocError>
     ensures run { IfOk result (λ ran. IsRunBy rules.now RUN_MESSAGES seed turns graph wake ran.events.items) }
     ensures stands { IfOk result (λ ran. StandsBy rules.now RUN_MESSAGES turns graph wake ran.events.items ran.at_limit) }
-    ensures told { IfOk result (IsToldBy rules.now RUN_MESSAGES graph) }
+    ensures told { IfOk result (IsToldBy rules.now RUN_MESSAGES check graph) }
 {
-    run_by::<Brand>(alloc, rules, graph, wake, seed, turns)
+    run_by::<Brand>(alloc, rules, graph, wake, seed, turns, check)
 }
 
 /// The same, by the book that a type names.
@@ -74,18 +79,19 @@ fn run_by<'a, J: Chosen>(
     wake: WakeSet,
     seed: u64,
     turns: u64,
+    check: Option<Check>,
 ) -> Result<BookRun, AllocError>
     requires book { rules.now ≡ J.book }
     requires most { RUN_MESSAGES ≡ J.most }
     ensures run { IfOk result (λ ran. IsRunBy J.book J.most seed turns graph wake ran.events.items) }
     ensures stands { IfOk result (λ ran. StandsBy J.book J.most turns graph wake ran.events.items ran.at_limit) }
-    ensures told { IfOk result (IsToldBy J.book J.most graph) }
+    ensures told { IfOk result (IsToldBy J.book J.most check graph) }
 {
     let playing = Playing {
         rules,
         most: RUN_MESSAGES,
     };
-    run_under::<Told<'a, J>>(alloc, playing, rules, graph, wake, seed, turns)
+    run_under::<Told<'a, J>>(alloc, playing, rules, graph, wake, seed, turns, check)
 }
 
 /// The same, by any protocol.
@@ -97,14 +103,15 @@ fn run_under<P: Spoken + Protocol<Node = Node>>(
     wake: WakeSet,
     seed: u64,
     turns: u64,
+    check: Option<Check>,
 ) -> Result<BookRun, AllocError>
     requires { P.goes_by setting }
     ensures run { IfOk result (λ ran. IsRunOf P.rules seed turns graph wake ran.events.items) }
     ensures stands { IfOk result (λ ran. StandsSo P.rules turns graph wake ran.events.items ran.at_limit) }
-    ensures told { IfOk result (IsTold P.rules P.words.kind P.bound rules.now graph) }
+    ensures told { IfOk result (IsTold P.rules P.words.kind P.bound rules.now check graph) }
 {
     let (world, at_limit) = run_world::<P, ()>(alloc, setting, graph, wake, seed, turns, &mut ())?;
-    ran(alloc, rules, &world, at_limit)
+    ran(alloc, rules, &world, at_limit, check)
 }
 
 /// The world of a graph once it has run as a seed's schedule picks, to its end or to its last turn, by the rules of any protocol,
@@ -145,10 +152,11 @@ pub fn ran<P: Spoken + Protocol<Node = Node>>(
     rules: &Rulebook,
     world: &World<P>,
     at_limit: bool,
+    check: Option<Check>,
 ) -> Result<BookRun, AllocError>
     ensures run { IfOk result (λ ran. (ran.events.items ≡ world.now.net.trace) × IsRunUnder P.rules (wakers world.now) (network world.now.net) ran.events.items) }
     ensures limit { IfOk result (λ ran. ran.at_limit ≡ at_limit) }
-    ensures told { IfOk result (IsTold P.rules P.words.kind P.bound rules.now world.now.net.graph) }
+    ensures told { IfOk result (IsTold P.rules P.words.kind P.bound rules.now check world.now.net.graph) }
 {
     let net = world.net();
     let events = Vec::from_slice(alloc, net.trace())?;
@@ -156,6 +164,7 @@ pub fn ran<P: Spoken + Protocol<Node = Node>>(
     let lacking = lacking_text(alloc, rules, net.graph(), &stops)?;
     let faults = faults_text(alloc, rules, net.graph(), &stops)?;
     let account = account_of(alloc, net)?;
+    let wrong = check_text(alloc, rules, net, check)?;
     Ok(BookRun {
         events,
         at_limit,
@@ -163,6 +172,7 @@ pub fn ran<P: Spoken + Protocol<Node = Node>>(
         lacking,
         faults,
         account,
+        wrong,
     })
 }
 

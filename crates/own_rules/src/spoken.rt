@@ -201,7 +201,7 @@ fn fault_word(fault: AnswerFault) -> Word<'static>
 }
 
 /// The mark of a port, by the variable `marks`. O(n) for a text of n bytes.
-fn mark_of<'s>(rules: &'s Rulebook, state: &State, port: u32) -> &'s [u8]
+pub(crate) fn mark_of<'s>(rules: &'s Rulebook, state: &State, port: u32) -> &'s [u8]
     ensures { result.now ≡ mark_at rules.now state.now port }
 {
     match state {

@@ -1,9 +1,9 @@
 //! The texts of a book, each with its number.
-ghost use Rattle.own_book.specs.Answer.{IsReadable, are_kinds, are_sends, said_by, sends_in};
+ghost use Rattle.own_book.specs.Answer.{IsReadable, are_kinds, are_sends, are_types, said_by, sends_in};
 ghost use Rattle.own_book.specs.Entry.{Entry};
 ghost use Rattle.own_book.specs.Question.{asked};
 ghost use Rattle.own_rules.specs.Rules.{numbered};
-ghost use Rattle.own_rules.specs.Texts.{messages_of, names_of, noted, number_in, said_to, text_at, texts_in, texts_of, texts_said};
+ghost use Rattle.own_rules.specs.Texts.{messages_of, names_of, noted, number_in, said_to, text_at, texts_in, texts_of, texts_said, types_of};
 ghost use Rattle.std.specs.Prelude.{IfOk, OnOk, Some, [], fold, length, position, slice_get, true, ◌≡◌};
 ghost use Rattle.std.specs.Str.{bytes_eq};
 
@@ -179,6 +179,22 @@ pub(crate) fn names_of(alloc: Global, kinds: &[u8]) -> Result<Texts, AllocError>
         rest = after;
     }
     Ok(names)
+}
+
+/// The types of the first of these kinds that has this name; none where there is no such kind.
+pub(crate) fn types_of<'k>(kinds: &'k [u8], name: &[u8]) -> &'k [u8]
+    requires { are_kinds kinds.now ≡ true }
+    ensures types { result.now ≡ types_of kinds.now name.now }
+    ensures readable { are_types result.now ≡ true }
+{
+    let mut rest = kinds;
+    'kinds: while let Some((kind, after)) = next_kind(rest) {
+        if kind.name == name {
+            return kind.types;
+        }
+        rest = after;
+    }
+    b""
 }
 
 /// The texts of a book.

@@ -1,6 +1,7 @@
 -- What has been played again, and what is told of it.
-use Rattle.std.proofs.Common.{◌≡◌, ◌∙◌, ℕ, suc, Bool, ap, arith, length, nat_lt, List, [], ◌∷◌, refl, subst}
+use Rattle.std.proofs.Common.{◌≡◌, ◌∙◌, ℕ, suc, Bool, ap, arith, length, nat_lt, List, [], ◌∷◌, Option, refl, subst}
 use Rattle.std.proofs.lemmas.Bool.{lt-ltb}
+use Rattle.ghs_choices.specs.declared.check.Check.{Check}
 use Rattle.ghs_graph.specs.Graph.{Shape}
 use Rattle.peer_machine.specs.Rules.{Rules}
 use Rattle.peer_machine.specs.Run.{IsRunUnder}
@@ -46,7 +47,8 @@ some_events [] b is = is
 some_events (event ∷ es) b is = is ∙ lt-ltb 0 (suc (length es)) (omega arith)
 
 -- what is told of the world is told of the graph
-pub told_again : {M : Type 0} (r : Rules Node M) (name : ℕ → List ℕ) (bound : Shape → ℕ) (book : List Entry) (g : Shape) (wake : WakeSet)
-    (es : List Event) (s : WorldState) → HasReplayed g wake es s → (ran : BookRun) → IsTold r name bound book s.net.graph ran →
-    IsTold r name bound book g ran
-told_again r name bound book g wake es s is ran told = subst (λ h. IsTold r name bound book h ran) is.graph told
+pub told_again : {M : Type 0} (r : Rules Node M) (name : ℕ → List ℕ) (bound : Shape → ℕ)
+    (book : List Entry) (check : Option Check) (g : Shape) (wake : WakeSet) (es : List Event) (s : WorldState) → HasReplayed g wake es s →
+    (ran : BookRun) →
+    IsTold r name bound book check s.net.graph ran → IsTold r name bound book check g ran
+told_again r name bound book check g wake es s is ran told = subst (λ h. IsTold r name bound book check h ran) is.graph told

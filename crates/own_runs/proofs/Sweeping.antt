@@ -1,8 +1,10 @@
 -- The figures of a run by a book.
-use Rattle.std.proofs.Common.{◌≡◌, ◌↔◌, ◌∙◌, ℕ, Bool, true, false, ap, List, [], length, Result, Ok, Err, IfOk, refl, subst, sym}
+use Rattle.std.proofs.Common.{◌≡◌, ◌↔◌, ◌∙◌, ℕ, Bool, true, false, ap, List, [], length, Option, Result, Ok, Err, IfOk, refl, subst, sym}
 use Rattle.std.proofs.lemmas.List.{nil_from_length}
+use Rattle.ghs_choices.specs.declared.check.Check.{Check}
 use Rattle.ghs_graph.specs.Graph.{Shape}
 use Rattle.own_book.specs.Entry.{Entry}
+use Rattle.own_rules.specs.Check.{IsChecked}
 use Rattle.own_rules.specs.Faults.{faults}
 use Rattle.own_rules.specs.Run.{IsRunOf}
 use Rattle.own_rules.specs.Stops.{lacking, stops_in}
@@ -64,15 +66,16 @@ module _ {M : Type 0} (r : Rules Node M) where
     ended = ended_by s ready stops b counted (subst (λ (m : NetState). stops ≡ stops_in (net_of r m).node m.graph.nodes) same noted) is;
   }
 
-  module _ (bound : Shape → ℕ) (book : List Entry) (seed turns : ℕ) (g copy : Shape) (wake : WakeSet) (s : WorldState) (same : copy ≡ g)
-      (own : s.net.graph ≡ copy) (woken : s.wake ≡ wake) (run : IsRunOf r seed turns copy wake s.net.trace) where
+  module _ (bound : Shape → ℕ) (book : List Entry) (check : Option Check) (seed turns : ℕ) (g copy : Shape) (wake : WakeSet) (s : WorldState)
+      (same : copy ≡ g) (own : s.net.graph ≡ copy) (woken : s.wake ≡ wake) (run : IsRunOf r seed turns copy wake s.net.trace) where
     -- what is told of the world that the seed's run has left of a copy of the graph is told of that run
     pub figures_of_run : {E : Type 0} (x : Result BookFigures E) →
         IfOk x (λ f. AreFigures r bound s.net.graph s.wake s.net.trace f.figures) →
         IfOk x (λ f. f.lacking.items ≡ lacking book s.net.graph (stops_in (net_of r s.net).node s.net.graph.nodes)) →
         IfOk x (λ f. f.faults.items ≡ faults book s.net.graph (stops_in (net_of r s.net).node s.net.graph.nodes)) →
-        IfOk x (AreFiguresOf r bound book seed turns g wake)
-    figures_of_run (Ok f) figures lacks says = record {
+        IfOk x (λ f. IsChecked book s.net.graph (net_of r s.net).node check f.wrong.items) →
+        IfOk x (AreFiguresOf r bound book check seed turns g wake)
+    figures_of_run (Ok f) figures lacks says wrong = record {
       events = s.net.trace;
       run = subst (λ h. IsRunOf r seed turns h wake s.net.trace) same run;
       figures =
@@ -80,5 +83,6 @@ module _ {M : Type 0} (r : Rules Node M) where
           (subst (λ k. AreFigures r bound s.net.graph k s.net.trace f.figures) woken figures);
       lacking = subst (λ h. f.lacking.items ≡ lacking book h (stops_in (net_after r h s.net.trace).node h.nodes)) (own ∙ same) lacks;
       faults = subst (λ h. f.faults.items ≡ faults book h (stops_in (net_after r h s.net.trace).node h.nodes)) (own ∙ same) says;
+      wrong = subst (λ h. IsChecked book h (net_after r h s.net.trace).node check f.wrong.items) (own ∙ same) wrong;
     }
-    figures_of_run (Err e) figures lacks says = tt
+    figures_of_run (Err e) figures lacks says wrong = tt

@@ -1,7 +1,9 @@
 -- The figures of a run by a book, and the columns of their lines.
-use Rattle.std.specs.Prelude.{◌≡◌, ◌↔◌, ℕ, ◌*◌, true, false, codes, List, []}
+use Rattle.std.specs.Prelude.{◌≡◌, ◌↔◌, ℕ, ◌*◌, true, false, codes, List, [], Option}
+use Rattle.ghs_choices.specs.declared.check.Check.{Check}
 use Rattle.ghs_graph.specs.Graph.{Shape}
 use Rattle.own_book.specs.Entry.{Entry}
+use Rattle.own_rules.specs.Check.{IsChecked}
 use Rattle.own_rules.specs.Faults.{faults}
 use Rattle.own_rules.specs.Rules.{rules_of}
 use Rattle.own_rules.specs.Run.{IsRunOf}
@@ -31,16 +33,18 @@ module _ {M : Type 0} (r : Rules Node M) where
     pub counts : AreCounts r bound g es (record f { ended = false })
     pub ended : (f.ended ≡ true) ↔ HasEnded g wake es
 
-  -- the figures of the run that a seed's schedule picks, and what is said of the nodes that have stopped in it
-  pub record AreFiguresOf (bound : Shape → ℕ) (book : List Entry) (seed turns : ℕ) (g : Shape) (wake : WakeSet) (x : BookFigures) : Type 0 where
+  -- the figures of the run that a seed's schedule picks, what is said of the nodes that have stopped in it, and of its end by a check
+  pub record AreFiguresOf (bound : Shape → ℕ) (book : List Entry) (check : Option Check) (seed turns : ℕ) (g : Shape) (wake : WakeSet)
+      (x : BookFigures) : Type 0 where
     pub events : List Event
     pub run : IsRunOf r seed turns g wake events
     pub figures : AreFigures bound g wake events x.figures
     pub lacking : x.lacking.items ≡ lacking book g (stops_in (net_after r g events).node g.nodes)
     pub faults : x.faults.items ≡ faults book g (stops_in (net_after r g events).node g.nodes)
+    pub wrong : IsChecked book g (net_after r g events).node check x.wrong.items
 
 -- by the rules of this book, where each node may send and defer so many messages
-abbrev pub AreFiguresBy : List Entry → ℕ → ℕ → ℕ → Shape → WakeSet → BookFigures → Type 0
+abbrev pub AreFiguresBy : List Entry → ℕ → Option Check → ℕ → ℕ → Shape → WakeSet → BookFigures → Type 0
 AreFiguresBy book most = AreFiguresOf (rules_of book most) (λ g. g.nodes * most) book
 
 -- a column for each kind that the greeting names

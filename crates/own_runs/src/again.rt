@@ -12,6 +12,7 @@ ghost use Rattle.peer_runs.specs.WorldState.{ready_events, wakers};
 ghost use Rattle.peer_schedule.specs.declared.fault.ReplayFault.TheVariants.{Memory};
 ghost use Rattle.std.specs.Prelude.{IfErr, IfOk, ◌≡◌};
 
+use ghs_choices::check::Check;
 use ghs_graph::graph::Graph;
 use own_rules::node::Node;
 use own_rules::protocol::{Chosen, Playing, RUN_MESSAGES, Told};
@@ -27,13 +28,14 @@ use peer_words::spoken::Spoken;
 use std::alloc::{AllocError, Global};
 use std::marker::Brand;
 
-/// The run of stored events by a book, played again, and what is told of it; `at_limit` says whether an event may still happen.
+/// The run of stored events by a book, played again, and what is told of it and of its end by a check; `at_limit` says whether an
+/// event may still happen.
 /// Each node sends and defers `RUN_MESSAGES` messages at most. Refusals: the first event that isn't lawful where it stands,
 /// counted from 1; out of memory, before or behind it.
 ///
 /// ```text
 /// let ran = run_book(alloc, &rules, graph, WakeSet::All, 7, 1 << 40)?;
-/// let again = replay_book(alloc, &rules, same_graph, WakeSet::All, &ran.events)?;
+/// let again = replay_book(alloc, &rules, same_graph, WakeSet::All, &ran.events, None)?;
 /// // again.events are these events, and what is told of them is the same
 /// ```
 pub fn replay_book(
@@ -42,13 +44,14 @@ pub fn replay_book(
     graph: Graph,
     wake: WakeSet,
     events: &[Event],
+    check: Option<Check>,
 ) -> Result<BookRun, ReplayFault>
     ensures run { IfOk result (IsReplayBy rules.now RUN_MESSAGES graph wake events.now) }
-    ensures told { IfOk result (IsToldBy rules.now RUN_MESSAGES graph) }
+    ensures told { IfOk result (IsToldBy rules.now RUN_MESSAGES check graph) }
     ensures fault { IfErr result (CantReplay (rules_of rules.now RUN_MESSAGES) graph wake events.now) }
     ensures lawful { IsRunUnder (rules_of rules.now RUN_MESSAGES) (may_wake graph wake) (network_of graph) events.now → IfErr result (λ fault. fault ≡ Memory) }
 {
-    replay_by::<Brand>(alloc, rules, graph, wake, events)
+    replay_by::<Brand>(alloc, rules, graph, wake, events, check)
 }
 
 /// The same, by the book that a type names.
@@ -58,11 +61,12 @@ fn replay_by<'a, J: Chosen>(
     graph: Graph,
     wake: WakeSet,
     events: &[Event],
+    check: Option<Check>,
 ) -> Result<BookRun, ReplayFault>
     requires book { rules.now ≡ J.book }
     requires most { RUN_MESSAGES ≡ J.most }
     ensures run { IfOk result (IsReplayBy J.book J.most graph wake events.now) }
-    ensures told { IfOk result (IsToldBy J.book J.most graph) }
+    ensures told { IfOk result (IsToldBy J.book J.most check graph) }
     ensures fault { IfErr result (CantReplay (rules_of J.book J.most) graph wake events.now) }
     ensures lawful { IsRunUnder (rules_of J.book J.most) (may_wake graph wake) (network_of graph) events.now → IfErr result (λ fault. fault ≡ Memory) }
 {
@@ -70,7 +74,7 @@ fn replay_by<'a, J: Chosen>(
         rules,
         most: RUN_MESSAGES,
     };
-    replay_under::<Told<'a, J>>(alloc, playing, rules, graph, wake, events)
+    replay_under::<Told<'a, J>>(alloc, playing, rules, graph, wake, events, check)
 }
 
 /// The same, by any protocol.
@@ -81,15 +85,16 @@ fn replay_under<P: Spoken + Protocol<Node = Node>>(
     graph: Graph,
     wake: WakeSet,
     events: &[Event],
+    check: Option<Check>,
 ) -> Result<BookRun, ReplayFault>
     requires { P.goes_by setting }
     ensures run { IfOk result (IsReplayOf P.rules graph wake events.now) }
-    ensures told { IfOk result (IsTold P.rules P.words.kind P.bound rules.now graph) }
+    ensures told { IfOk result (IsTold P.rules P.words.kind P.bound rules.now check graph) }
     ensures fault { IfErr result (CantReplay P.rules graph wake events.now) }
     ensures lawful { IsRunUnder P.rules (may_wake graph wake) (network_of graph) events.now → IfErr result (λ fault. fault ≡ Memory) }
 {
     match replay::<P>(alloc, setting, graph, wake, events) {
-        Ok(world) => match so_far(alloc, rules, &world) {
+        Ok(world) => match so_far(alloc, rules, &world, check) {
             Ok(ran) => Ok(ran),
             Err(_) => Err(ReplayFault::Memory),
         },
@@ -102,10 +107,11 @@ fn so_far<P: Spoken + Protocol<Node = Node>>(
     alloc: Global,
     rules: &Rulebook,
     world: &World<P>,
+    check: Option<Check>,
 ) -> Result<BookRun, AllocError>
     ensures run { IfOk result (λ ran. (ran.events.items ≡ world.now.net.trace) × IsRunUnder P.rules (wakers world.now) (network world.now.net) ran.events.items) }
     ensures stands { IfOk result (λ ran. ran.at_limit ≡ may_go_on (ready_events P.rules world.now)) }
-    ensures told { IfOk result (IsTold P.rules P.words.kind P.bound rules.now world.now.net.graph) }
+    ensures told { IfOk result (IsTold P.rules P.words.kind P.bound rules.now check world.now.net.graph) }
 {
-    ran(alloc, rules, world, world.ready_count() > 0)
+    ran(alloc, rules, world, world.ready_count() > 0, check)
 }

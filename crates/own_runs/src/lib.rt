@@ -1,4 +1,4 @@
-//! Runs by a user's book: the mark that they are stored under, the run played again, its steps, how long it is, and sweeps.
+//! Runs by a user's book: the mark that they are stored under, the run played again, its steps, how long it is, sweeps, and all runs.
 //!
 //! Proved: the mark of a book is its protocol's name, the number of its entries and the SHA-256 of their text (`mark_of`). `fits` says
 //! whether a book has as many entries as a stored run's and the first of them the same sum, and else names the first of two reasons
@@ -7,7 +7,9 @@
 //! isn't lawful (`CantReplay`). `write_steps_book` writes the lines of `peer_steps` by these rules. `time_by_book` has a run's longest
 //! chain, its bits and its longest message (`AreLengths`). `figures_by_book` has the figures of the run that a seed picks, which
 //! has ended where no event may happen any more and no node has stopped (`AreFiguresBy`), and `table_by_book` the columns of
-//! their lines (`layout_by`), or it says that there are more than eight kinds of messages.
+//! their lines (`layout_by`), or it says that there are more than eight kinds of messages. `explore_book` tells of all runs of a small
+//! network what the book lacks, a run in which nodes have stopped, one whose end a check finds wrong, or with which counts they end
+//! (`IsExploredBy`).
 //!
 //! Not claimed: that two books with one sum are the same; that is SHA-256's promise. Worked examples: `own_examples`. Next:
 //! `own_rules`, which has the rules, and `peer_trace`, which has the text.

@@ -6,3 +6,4 @@ mod Printing
 mod Ran
 mod Stopping
 mod Turns
+mod Walking

@@ -2,5 +2,6 @@
 pub mod Account
 pub mod Branches
 pub mod ExploredText
+pub mod Links
 pub mod ReportText
 pub mod Runs

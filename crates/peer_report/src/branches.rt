@@ -4,6 +4,7 @@ ghost use Rattle.peer_machine.specs.Branches.{AreBranches};
 ghost use Rattle.peer_net.specs.NetState.{network, net_of};
 ghost use Rattle.peer_report.specs.Branches.{is_branch_link};
 
+use crate::links::link_ports;
 use ghs_graph::graph::Graph;
 use ghs_graph::key::Key;
 use peer_machine::ends::FindsTree;
@@ -29,19 +30,14 @@ fn branch_links<P: FindsTree>(
     requires { graph.now ≡ net.now.graph }
     ensures { IfOk result (λ ks. ks.items ≡ filter (is_branch_link P.is_branch graph.now.keys (net_of P.rules net.now)) graph.now.keys) }
 {
-    let mut links = Vec::new(alloc);
-    // The port that each node has on its next link.
-    let mut ports = vec![in alloc; 0u32; graph.nodes() as usize + 1]?;
-    for key in graph.keys() {
-        let a = key.a as usize;
-        let b = key.b as usize;
-        let at_a = has_branch(net, key.a, ports[a]);
-        let at_b = has_branch(net, key.b, ports[b]);
-        push_if(&mut links, *key, at_a || at_b)?;
-        ports[a] += 1;
-        ports[b] += 1;
+    let mut found = Vec::new(alloc);
+    let links = link_ports(alloc, graph)?;
+    for link in links.as_slice() {
+        let at_a = has_branch(net, link.key.a, link.at_a);
+        let at_b = has_branch(net, link.key.b, link.at_b);
+        push_if(&mut found, link.key, at_a || at_b)?;
     }
-    Ok(links)
+    Ok(found)
 }
 
 /// Whether a node has marked a port as a branch.

@@ -5,7 +5,7 @@ use Rattle.clap.specs.Kinds.{Kinds, HasKind, or_else}
 use Rattle.clap.specs.Words.{Text, fault_of, is_simple, is_simple_and_free, subcommand_of, subcommand_rows_of}
 use Rattle.clap.proofs.OnLiterals.{clap_on_literals}
 use Rattle.ghs_commands.specs.Grammar.{program}
-use Rattle.ghs_commands.specs.Job.{AreNetworks, IsSaidOf, IsTask, Used, is_own, option_kinds, command_in, kinds_of, value_in, with_name}
+use Rattle.ghs_commands.specs.Job.{AreNetworks, IsSaidOf, IsTask, Used, check_in, is_own, option_kinds, command_in, kinds_of, value_in, with_name}
 use Rattle.ghs_commands.proofs.Said.{said_of, said_first}
 use Rattle.ghs_commands.proofs.job.read_job.Goals as goal
 
@@ -58,6 +58,9 @@ returns-in-Ok-clause-networks c =
 pub returns-in-Ok-clause-book : goal.returns-in-Ok-clause-book
 returns-in-Ok-clause-book c = subst (λ (u : Used). IfOk c.job_of.result (λ job. option_map string_bytes job.book ≡ value_in (codes "book") u))
     (command_is c) c.job_of.ensures.book
+
+pub returns-in-Ok-clause-check : goal.returns-in-Ok-clause-check
+returns-in-Ok-clause-check c = subst (λ (u : Used). IfOk c.job_of.result (λ job. job.check ≡ check_in u)) (command_is c) c.job_of.ensures.check
 
 pub returns-in-Ok-clause-own : goal.returns-in-Ok-clause-own
 returns-in-Ok-clause-own c = subst (λ (u : Used). IfOk c.job_of.result (λ job. job.own ≡ is_own u)) (command_is c) c.job_of.ensures.own

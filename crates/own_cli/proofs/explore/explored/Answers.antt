@@ -9,10 +9,10 @@ explored_under-requires-clause-mark c = c.in_ok-mark.ensures ∙ ap mark_of (sym
 
 pub returns-clause-told : goal.returns-clause-told
 returns-clause-told c =
-    subst (λ b. IfOk c.explored_under.result (λ told. IsOwnExploration c.args.options.now c.args.graph.now b told.end told.text.items))
+    subst (λ b. IfOk c.explored_under.result (λ told. IsOwnExploration c.args.options.now c.args.check c.args.graph.now b told.end told.text.items))
     c.in_ok-rules.ensures c.explored_under.ensures.told
 
 pub returns-clause-fault : goal.returns-clause-fault
 returns-clause-fault c =
-    subst (λ b. IfErr c.explored_under.result (HasNoOwnExploration c.args.options.now c.args.graph.now b)) c.in_ok-rules.ensures
+    subst (λ b. IfErr c.explored_under.result (HasNoOwnExploration c.args.options.now c.args.check c.args.graph.now b)) c.in_ok-rules.ensures
     c.explored_under.ensures.fault

@@ -6,6 +6,6 @@ use Rattle.own_cli.proofs.sweep.troubled.Given as goal
 
 abbrev pub invariant-loop-done : goal.invariant-loop-done
 invariant-loop-done l = record {
-  runs : AreRuns (IsSoundRun l.rules) l.graph (setup_of l.options) l.options.seeds.first l.runs.items;
+  runs : AreRuns (IsSoundRun l.rules l.check) l.graph (setup_of l.options) l.options.seeds.first l.runs.items;
   count : length l.runs.items ≡ l.done;
 }

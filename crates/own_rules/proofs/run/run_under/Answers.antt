@@ -20,5 +20,5 @@ returns-clause-stands g c =
 
 pub returns-clause-told : goal.returns-clause-told
 returns-clause-told g c =
-    told_of_run g.P.Protocol.rules g.P.Spoken.words.kind g.P.Protocol.bound c.args.rules.now _ _ c.in_ok-world.ensures.graph c.ran.result
+    told_of_run g.P.Protocol.rules g.P.Spoken.words.kind g.P.Protocol.bound c.args.rules.now c.args.check _ _ c.in_ok-world.ensures.graph c.ran.result
     c.ran.ensures.told

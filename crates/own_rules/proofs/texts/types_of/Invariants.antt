@@ -1,7 +1,7 @@
 use Rattle.std.proofs.Common.{◌≡◌, true, length}
 use Rattle.own_book.specs.Answer.{are_kinds, kinds_in}
-use Rattle.own_rules.specs.Looks.{types_of}
-use Rattle.own_rules.proofs.looks.types_of.Given as goal
+use Rattle.own_rules.specs.Texts.{types_of}
+use Rattle.own_rules.proofs.texts.types_of.Given as goal
 
 abbrev pub invariant-kinds : goal.invariant-kinds
 invariant-kinds l = record {
