@@ -9,6 +9,7 @@ _ghs() {
     case ${COMP_WORDS[1]},$before in
         run,--protocol) COMPREPLY=($(compgen -W 'ghs boruvka echo own' -- "$word")) && return ;;
         run,--book) : && return ;;
+        run,--check) : && return ;;
         run,--seed) : && return ;;
         run,--schedule) COMPREPLY=($(compgen -W 'seeded patient rounds waits lifo round-robin' -- "$word")) && return ;;
         run,--workers) : && return ;;
@@ -17,6 +18,7 @@ _ghs() {
         run,--print) COMPREPLY=($(compgen -W 'report trace time' -- "$word")) && return ;;
         replay,--protocol) COMPREPLY=($(compgen -W 'ghs boruvka echo own' -- "$word")) && return ;;
         replay,--book) : && return ;;
+        replay,--check) : && return ;;
         replay,--wake) COMPREPLY=($(compgen -W 'all first' -- "$word")) && return ;;
         steps,--protocol) COMPREPLY=($(compgen -W 'ghs boruvka echo own' -- "$word")) && return ;;
         steps,--book) : && return ;;
@@ -28,6 +30,7 @@ _ghs() {
         judge,--wake) COMPREPLY=($(compgen -W 'all first' -- "$word")) && return ;;
         sweep,--protocol) COMPREPLY=($(compgen -W 'ghs boruvka echo own' -- "$word")) && return ;;
         sweep,--book) : && return ;;
+        sweep,--check) : && return ;;
         sweep,--seeds) : && return ;;
         sweep,--schedule) COMPREPLY=($(compgen -W 'seeded patient rounds waits lifo round-robin' -- "$word")) && return ;;
         sweep,--workers) : && return ;;
@@ -50,6 +53,7 @@ _ghs() {
         make,--weights) COMPREPLY=($(compgen -W 'random rising falling equal' -- "$word")) && return ;;
         explore,--protocol) COMPREPLY=($(compgen -W 'ghs boruvka echo own' -- "$word")) && return ;;
         explore,--book) : && return ;;
+        explore,--check) : && return ;;
         explore,--wake) COMPREPLY=($(compgen -W 'all first' -- "$word")) && return ;;
         explore,--limit) : && return ;;
         explore,--print) COMPREPLY=($(compgen -W 'report trace' -- "$word")) && return ;;
@@ -58,15 +62,15 @@ _ghs() {
     esac
     case ${COMP_WORDS[1]} in
         tree) [[ $word == -* ]] && COMPREPLY=($(compgen -W '--core -h --help' -- "$word")) ;;
-        run) [[ $word == -* ]] && COMPREPLY=($(compgen -W '--protocol --book --seed --schedule --workers --wake --turns --print --core --progress --tally -h --help' -- "$word")) ;;
-        replay) [[ $word == -* ]] && COMPREPLY=($(compgen -W '--protocol --book --wake -h --help' -- "$word")) ;;
+        run) [[ $word == -* ]] && COMPREPLY=($(compgen -W '--protocol --book --check --seed --schedule --workers --wake --turns --print --core --progress --tally -h --help' -- "$word")) ;;
+        replay) [[ $word == -* ]] && COMPREPLY=($(compgen -W '--protocol --book --check --wake -h --help' -- "$word")) ;;
         steps) [[ $word == -* ]] && COMPREPLY=($(compgen -W '--protocol --book --wake --from --to --node --json -h --help' -- "$word")) ;;
         judge) [[ $word == -* ]] && COMPREPLY=($(compgen -W '--book --wake -h --help' -- "$word")) ;;
-        sweep) [[ $word == -* ]] && COMPREPLY=($(compgen -W '--protocol --book --seeds --schedule --workers --wake --turns --print --by --names --json --progress -h --help' -- "$word")) ;;
+        sweep) [[ $word == -* ]] && COMPREPLY=($(compgen -W '--protocol --book --check --seeds --schedule --workers --wake --turns --print --by --names --json --progress -h --help' -- "$word")) ;;
         view) [[ $word == -* ]] && COMPREPLY=($(compgen -W '--protocol --book --seed --seeds --schedule --wake --turns --trace --from --to -h --help' -- "$word")) ;;
         make) [[ $word == -* ]] && COMPREPLY=($(compgen -W '--seed --links --weights -h --help' -- "$word"))
             [[ $word == -* ]] || { [ "$COMP_CWORD" -eq 2 ] && COMPREPLY=($(compgen -W 'path ring star grid complete tree random road forest slow busy farcore chainwake' -- "$word")); return; } ;;
-        explore) [[ $word == -* ]] && COMPREPLY=($(compgen -W '--protocol --book --wake --limit --print --end --progress -h --help' -- "$word")) ;;
+        explore) [[ $word == -* ]] && COMPREPLY=($(compgen -W '--protocol --book --check --wake --limit --print --end --progress -h --help' -- "$word")) ;;
     esac
     [[ $word == -* ]] || COMPREPLY=($(compgen -f -- "$word"))
 }
