@@ -43,25 +43,22 @@ module _ {S M : Type 0} (r : Rules S M) where
 
   module _ (kind : ℕ → List ℕ) (bound : Shape → ℕ) where
     -- what the runs of the options' wake set end with, printed
-    are_ends : (o : ExploreOptions) (g : Shape) (wake : WakeSet) (rows : List EndRow) (runs : List (List Event)) (states : ℕ) (text : List ℕ) →
-        wake ≡ o.wake →
+    are_ends : (o : ExploreOptions) (g : Shape) (wake : WakeSet) (rows : List EndRow) (states : ℕ) (text : List ℕ) → wake ≡ o.wake →
         states ≤ o.limit →
         IsGraph g →
         RowsHaveRange r →
         AreEnds r g wake rows →
         HasStates r g wake states →
-        IsExploredText r.kinds kind bound (record { graph = g; wake = wake; rows = rows; ends = runs; states = states }) text →
+        IsExploredText r.kinds kind bound g rows states text →
         AreEndsOf r kind bound o g text
-    are_ends o g wake rows runs states text is few graph range ends reached printed = record {
+    are_ends o g wake rows states text is few graph range ends reached printed = record {
       rows = rows;
       states = states;
-      runs = runs;
       ends = subst (λ (w : WakeSet). AreEnds r g w rows) is ends;
       range = range g o.wake rows graph (subst (λ (w : WakeSet). AreEnds r g w rows) is ends);
       reached = subst (λ (w : WakeSet). HasStates r g w states) is reached;
       few = few;
-      printed = subst (λ (w : WakeSet). IsExploredText r.kinds kind bound
-          (record { graph = g; wake = w; rows = rows; ends = runs; states = states }) text) is printed;
+      printed = printed;
     }
 
     -- the same of what was explored
@@ -73,9 +70,9 @@ module _ {S M : Type 0} (r : Rules S M) where
         RowsHaveRange r →
         AreEnds r x.graph x.wake x.rows →
         HasStates r x.graph x.wake x.states →
-        IfOk result (λ y. IsExploredText r.kinds kind bound x (text y)) →
+        IfOk result (λ y. IsExploredText r.kinds kind bound x.graph x.rows x.states (text y)) →
         IfOk result (λ y. AreEndsOf r kind bound o g (text y))
     ends_printed (Err e) text o g x graph wake few is range ends reached printed = tt
     ends_printed (Ok y) text o g x graph wake few is range ends reached printed =
         subst (λ (s : Shape). AreEndsOf r kind bound o s (text y)) graph
-        (are_ends o x.graph x.wake x.rows x.ends x.states (text y) wake few (subst IsGraph (sym graph) is) range ends reached printed)
+        (are_ends o x.graph x.wake x.rows x.states (text y) wake few (subst IsGraph (sym graph) is) range ends reached printed)

@@ -54,12 +54,11 @@ module _ {S M : Type 0} (r : Rules S M) where
     pub record AreEndsOf (o : ExploreOptions) (g : Shape) (output : List ℕ) : Type 0 where
       pub rows : List EndRow
       pub states : ℕ
-      pub runs : List (List Event)
       pub ends : AreEnds r g o.wake rows
       pub range : IsRange r g o.wake (least_sum rows) (greatest_sum rows)
       pub reached : HasStates r g o.wake states
       pub few : states ≤ o.limit
-      pub printed : IsExploredText r.kinds kind bound (record { graph = g; wake = o.wake; rows = rows; ends = runs; states = states }) output
+      pub printed : IsExploredText r.kinds kind bound g rows states output
 
     -- what is found
     abbrev pub IsFound : Protocol → Finding → ExploreOptions → Shape → List ℕ → Type 0

@@ -2,7 +2,7 @@
 ghost use Rattle.ghs_cli.specs.AnyExplore.{AreEndsOf, FindsNothing, IsBehind, IsFound, IsRunOf};
 ghost use Rattle.ghs_commands.specs.Job.{AreExploreLimits};
 ghost use Rattle.ghs_commands.specs.declared.exploring.Finding.{Finding};
-ghost use Rattle.std.specs.Prelude.{◌≡◌, ◌<◌, ◌≤◌, Err, IfErr, IfOk, length};
+ghost use Rattle.std.specs.Prelude.{◌≡◌, ◌<◌, ◌≤◌, Err, None, IfErr, IfOk, length};
 
 use crate::progress::Teller;
 use ghs_answers::fault::ServeFault;
@@ -12,7 +12,7 @@ use peer_explore::explore::explore_watched;
 use peer_explore::explored::Explored;
 use peer_explore::fault::ExploreFault;
 use peer_explore::laws::law_range;
-use peer_machine::explorable::Explorable;
+use peer_machine::explorable::{Explorable, Finite};
 use peer_machine::fixed::Fixed;
 use peer_report::explored_text::explored_text;
 use peer_trace::protocol::Protocol;
@@ -21,7 +21,7 @@ use peer_words::spoken::Spoken;
 use std::alloc::{AllocError, Global};
 
 /// What is found of all runs of a graph. Stored events name the protocol.
-pub(crate) fn found<P: Explorable + Spoken + Fixed, R: Eprint>(
+pub(crate) fn found<P: Explorable + Finite + Spoken + Fixed, R: Eprint>(
     rt: &R,
     alloc: Global,
     protocol: Protocol,
@@ -52,7 +52,7 @@ pub(crate) fn found<P: Explorable + Spoken + Fixed, R: Eprint>(
 }
 
 /// What is printed of what was found.
-fn found_text<P: Explorable + Spoken>(
+fn found_text<P: Explorable + Finite + Spoken>(
     alloc: Global,
     protocol: Protocol,
     options: &ExploreOptions,
@@ -63,6 +63,7 @@ fn found_text<P: Explorable + Spoken>(
     requires graph { explored.now.graph ≡ graph.now }
     requires wake { explored.now.wake ≡ options.now.wake }
     requires few { explored.now.states ≤ options.now.limit }
+    requires lost { explored.now.lost ≡ None }
     ensures text { IfOk result (λ text. IsFound P.rules P.words.kind P.bound protocol options.now.finding options.now graph.now text.items) }
     ensures fault { IfErr result (FindsNothing P.rules options.now graph.now) }
 {
@@ -73,7 +74,7 @@ fn found_text<P: Explorable + Spoken>(
 }
 
 /// With which counts of messages the runs end.
-fn ends_text<P: Explorable + Spoken>(
+fn ends_text<P: Explorable + Finite + Spoken>(
     alloc: Global,
     options: &ExploreOptions,
     graph: &Graph,
@@ -82,6 +83,7 @@ fn ends_text<P: Explorable + Spoken>(
     requires graph { explored.now.graph ≡ graph.now }
     requires wake { explored.now.wake ≡ options.now.wake }
     requires few { explored.now.states ≤ options.now.limit }
+    requires lost { explored.now.lost ≡ None }
     ensures { IfOk result (λ text. AreEndsOf P.rules P.words.kind P.bound options.now graph.now text.items) }
 {
     // Called for their clauses: what the rows and the states are, and that the first and the last row have the least and the
@@ -94,7 +96,7 @@ fn ends_text<P: Explorable + Spoken>(
 }
 
 /// The events of a run that ends as the row says that is asked for.
-fn trace_of_end<P: Explorable + Spoken>(
+fn trace_of_end<P: Explorable + Finite + Spoken>(
     alloc: Global,
     protocol: Protocol,
     options: &ExploreOptions,

@@ -8,7 +8,7 @@ use ghs_graph::graph::Graph;
 use ghs_test_graphs::graphs::PATH_OF_THREE;
 use peer_explore::explore::explore_watched;
 use peer_explore::watch::Unwatched;
-use peer_machine::explorable::Explorable;
+use peer_machine::explorable::{Explorable, Finite};
 use peer_machine::fixed::Fixed;
 use peer_network::event::Event;
 use peer_network::wake_set::WakeSet;
@@ -18,7 +18,7 @@ use std::alloc::Global;
 use std::process::Abort;
 
 /// With which counts of messages the runs of a small network end, under any protocol.
-pub fn ends_of<P: Explorable + Spoken + Fixed>(
+pub fn ends_of<P: Explorable + Finite + Spoken + Fixed>(
     alloc: Global,
     graph: &Graph,
 ) -> Result<Vec<u8>, Fault> {
@@ -31,7 +31,10 @@ pub fn ends_of<P: Explorable + Spoken + Fixed>(
 }
 
 /// A run that sends as few messages as any.
-pub fn fewest<P: Explorable + Fixed>(alloc: Global, graph: &Graph) -> Result<Vec<Event>, Fault> {
+pub fn fewest<P: Explorable + Finite + Fixed>(
+    alloc: Global,
+    graph: &Graph,
+) -> Result<Vec<Event>, Fault> {
     let wake = WakeSet::All;
     let setting = P::setting();
     let found = explore_watched::<P, Unwatched>(

@@ -1,14 +1,32 @@
 -- What is told of all runs of a graph, piece by piece.
 use Rattle.std.proofs.Common.{◌≡◌, ℕ, ◌+◌, ◌<◌, ◌≤◌, None, Some, List, [], ◌∷◌, ◌++◌, arith, length, take, ap, subst, sym, ◌∙◌, ⊎_elim}
-use Rattle.std.specs.Prelude.{get_or, slice_get}
+use Rattle.std.specs.Prelude.{IfOk, Result, Ok, Err, get_or, slice_get}
+use Rattle.std.proofs.lemmas.Bool.{cases_lt}
 use Rattle.std.proofs.lemmas.List.{append_assoc, append-nil, take_more}
 use Rattle.std.proofs.lemmas.Option.{slice_get_cases}
 use Rattle.ghs_graph.specs.Graph.{Shape}
+use Rattle.peer_machine.specs.Explorable.{IsSmall}
 use Rattle.peer_network.specs.declared.event.Event.{Event}
 use Rattle.peer_network.specs.declared.wake_set.WakeSet.{WakeSet}
-use Rattle.ghs_outcomes.specs.Outcomes.{AreOutcomes, No_runs, More, Explores, HasRunsBehind}
+use Rattle.ghs_outcomes.specs.Outcomes.{AreOutcomes, No_runs, More, Explores, HasRunsBehind, IsTold, Outcomes}
+
+-- a graph that isn't too large is small
+pub small_by : (g : Shape) → ((IsSmall g → ⊥) → ⊥) → IsSmall g
+small_by g large = ⊎_elim
+    (λ (nodes : g.nodes < 13). ⊎_elim
+    (λ (links : length g.keys < 21). record { nodes = omega (arith, nodes); links = omega (arith, links) })
+    (λ (links : 21 ≤ length g.keys). absurd (large (λ s. let l = s.links in omega (arith, l, links))))
+    (cases_lt (length g.keys) 21))
+    (λ (nodes : 13 ≤ g.nodes). absurd (large (λ s. let n = s.nodes in omega (arith, n, nodes))))
+    (cases_lt g.nodes 13)
 
 module _ (x : Explores) where
+  -- where there is a text of all runs of a small graph, it is told
+  pub told_if : {A E : Type 0} (g : Shape) (wake : WakeSet) (limit : ℕ) (result : Result A E) (text : A → List ℕ) → IsSmall g →
+      IfOk result (λ y. AreOutcomes x g wake limit (text y)) → IfOk result (λ y. IsTold x g wake limit (text y))
+  told_if g wake limit (Ok y) text small are = Outcomes small are
+  told_if g wake limit (Err e) text small are = tt
+
   -- nothing stands behind a text yet
   pub no_runs : (g : Shape) (wake : WakeSet) (rows : List x.Row) (text : List ℕ) → HasRunsBehind x g wake (take 0 rows) text text
   no_runs g wake rows text = ([], No_runs, sym (append-nil text))

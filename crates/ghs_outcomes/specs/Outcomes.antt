@@ -61,13 +61,7 @@ module _ {S M : Type 0} (r : Rules S M) (kind : ℕ → List ℕ) (bound : Shape
     ends_in = any.EndsIn r;
     has_states = any_states.HasStates r;
     has_more_states = any_states.HasMoreStates r;
-    is_text = λ g wake rows states. any_text.IsExploredText r.kinds kind bound (record {
-      graph = g;
-      wake = wake;
-      rows = rows;
-      ends = [];
-      states = states;
-    });
+    is_text = λ g wake rows states. any_text.IsExploredText r.kinds kind bound g rows states;
     stored = stored_text p;
   }
 

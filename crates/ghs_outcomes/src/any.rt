@@ -1,6 +1,6 @@
 //! All runs by any protocol.
 ghost use Rattle.ghs_outcomes.specs.Outcomes.{AreOutcomes, HasRunsBehind, IsTold, by_any};
-ghost use Rattle.std.specs.Prelude.{◌≡◌, ◌≤◌, IfOk, OnOk};
+ghost use Rattle.std.specs.Prelude.{◌≡◌, ◌≤◌, None, IfOk, OnOk};
 
 use crate::words::{no_numbers, too_large, too_many};
 use ghs_graph::graph::Graph;
@@ -9,7 +9,7 @@ use peer_explore::explored::Explored;
 use peer_explore::fault::ExploreFault;
 use peer_explore::laws::law_range;
 use peer_explore::watch::Unwatched;
-use peer_machine::explorable::Explorable;
+use peer_machine::explorable::{Explorable, Finite};
 use peer_machine::fixed::Fixed;
 use peer_network::wake_set::WakeSet;
 use peer_report::explored_text::explored_text;
@@ -19,7 +19,7 @@ use peer_words::spoken::Spoken;
 use std::alloc::{AllocError, Global};
 
 /// What is told of all runs of a graph. Stored runs name the protocol. Refusal: out of memory.
-pub(crate) fn told_by<P: Explorable + Spoken + Fixed>(
+pub(crate) fn told_by<P: Explorable + Finite + Spoken + Fixed>(
     alloc: Global,
     protocol: Protocol,
     wake: WakeSet,
@@ -39,7 +39,7 @@ pub(crate) fn told_by<P: Explorable + Spoken + Fixed>(
 }
 
 /// The rows and the states, and behind them a run of each row.
-fn outcomes_text<P: Explorable + Spoken>(
+fn outcomes_text<P: Explorable + Finite + Spoken>(
     alloc: Global,
     protocol: Protocol,
     wake: WakeSet,
@@ -50,6 +50,7 @@ fn outcomes_text<P: Explorable + Spoken>(
     requires graph { explored.now.graph ≡ graph.now }
     requires wake { explored.now.wake ≡ wake }
     requires few { explored.now.states ≤ limit }
+    requires lost { explored.now.lost ≡ None }
     ensures { IfOk result (λ text. AreOutcomes (by_any P.rules P.words.kind P.bound protocol) graph.now wake limit text.items) }
 {
     // Called for their clauses: what the rows and the states are, and that the first and the last row have the least and the
@@ -64,7 +65,7 @@ fn outcomes_text<P: Explorable + Spoken>(
 }
 
 /// A run of each row. Refusal: out of memory.
-fn put_runs<P: Explorable + Spoken>(
+fn put_runs<P: Explorable + Finite + Spoken>(
     alloc: Global,
     protocol: Protocol,
     text: &mut Vec<u8>,

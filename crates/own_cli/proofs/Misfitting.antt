@@ -1,5 +1,5 @@
 -- What is told of the text of a stored run by a book.
-use Rattle.std.proofs.Common.{◌≡◌, ℕ, List, Option}
+use Rattle.std.proofs.Common.{ℕ, List, Option}
 use Rattle.std.specs.Prelude.{IfSome}
 use Rattle.own_book.specs.Entry.{Entry}
 use Rattle.peer_network.specs.declared.event.Event.{Event}

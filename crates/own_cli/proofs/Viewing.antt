@@ -4,7 +4,7 @@ use Rattle.std.specs.Prelude.{IfErr, IfOk}
 use Rattle.ghs_graph.specs.Graph.{Shape}
 use Rattle.ghs_report.specs.Writing.{HasWritten}
 use Rattle.own_book.specs.Entry.{Entry}
-use Rattle.own_rules.specs.declared.protocol.TheConstants.{RUN_MESSAGES}
+use Rattle.own_rules.specs.declared.protocol.TheConstants.{RUNNING}
 use Rattle.own_rules.specs.declared.run.BookRun.{BookRun}
 use Rattle.own_view.specs.Page.{IsPageBy, IsPairBy}
 use Rattle.peer_network.specs.declared.event.Event.{Event}
@@ -22,19 +22,19 @@ use Rattle.ghs_answers.specs.declared.fault.ServeFault.TheVariants as serve
 -- a page doesn't change with what names its graph and its events
 module _ (book : List Entry) (from to : ℕ) (text : List ℕ) where
   pub same_page : (g h : Shape) (a b : List Event) → g ≡ h → a ≡ b →
-      IsPageBy book RUN_MESSAGES g a from to text →
-      IsPageBy book RUN_MESSAGES h b from to text
+      IsPageBy book RUNNING g a from to text →
+      IsPageBy book RUNNING h b from to text
   same_page g h a b e f page =
-      subst (λ (s : Shape). IsPageBy book RUN_MESSAGES s b from to text) e
-      (subst (λ (es : List Event). IsPageBy book RUN_MESSAGES g es from to text) f page)
+      subst (λ (s : Shape). IsPageBy book RUNNING s b from to text) e
+      (subst (λ (es : List Event). IsPageBy book RUNNING g es from to text) f page)
 
   pub same_pair : (g h : Shape) (a b c d : List Event) → g ≡ h → a ≡ b → c ≡ d →
-      IsPairBy book RUN_MESSAGES g a c from to text →
-      IsPairBy book RUN_MESSAGES h b d from to text
+      IsPairBy book RUNNING g a c from to text →
+      IsPairBy book RUNNING h b d from to text
   same_pair g h a b c d e f i page =
-      subst (λ (s : Shape). IsPairBy book RUN_MESSAGES s b d from to text) e
-      (subst (λ (es : List Event). IsPairBy book RUN_MESSAGES g es d from to text) f
-      (subst (λ (es : List Event). IsPairBy book RUN_MESSAGES g a es from to text) i page))
+      subst (λ (s : Shape). IsPairBy book RUNNING s b d from to text) e
+      (subst (λ (es : List Event). IsPairBy book RUNNING g es d from to text) f
+      (subst (λ (es : List Event). IsPairBy book RUNNING g a es from to text) i page))
 
 module _ (o : ViewOptions) (g : Shape) (book : List Entry) where
   -- a page is too large
@@ -66,7 +66,7 @@ module _ (o : ViewOptions) (g : Shape) (book : List Entry) where
   -- the page of a run without trouble
   pub one_shown : (same : Shape) (ran shown : BookRun) (text : List ℕ) → same ≡ g → IsShownRun o o.seed g book ran → shown ≡ ran →
       IsSound ran →
-      IsPageBy book RUN_MESSAGES same shown.events.items o.from o.to text →
+      IsPageBy book RUNNING same shown.events.items o.from o.to text →
       IsOneView o g book Ended text
   one_shown same ran shown text e run is sound page = record {
     ran = ran;
@@ -74,8 +74,8 @@ module _ (o : ViewOptions) (g : Shape) (book : List Entry) where
     printed = inr (
       refl,
       sound,
-      subst (λ (s : Shape). IsPageBy book RUN_MESSAGES s ran.events.items o.from o.to text) e
-          (subst (λ (r : BookRun). IsPageBy book RUN_MESSAGES same r.events.items o.from o.to text) is page),
+      subst (λ (s : Shape). IsPageBy book RUNNING s ran.events.items o.from o.to text) e
+          (subst (λ (r : BookRun). IsPageBy book RUNNING same r.events.items o.from o.to text) is page),
     );
   }
 
@@ -92,7 +92,7 @@ module _ (o : ViewOptions) (g : Shape) (book : List Entry) where
       other_shown ≡ second →
       IsSound first →
       IsSound second →
-      IsPairBy book RUN_MESSAGES same shown.events.items other_shown.events.items o.from o.to text →
+      IsPairBy book RUNNING same shown.events.items other_shown.events.items o.from o.to text →
       IsTwoView o beside g book Ended text
   two_shown beside same first second shown other_shown text e run other is too sound other_sound page = record {
     first = first;
@@ -103,9 +103,9 @@ module _ (o : ViewOptions) (g : Shape) (book : List Entry) where
       refl,
       sound,
       other_sound,
-      subst (λ (s : Shape). IsPairBy book RUN_MESSAGES s first.events.items second.events.items o.from o.to text) e
-          (subst (λ (r : BookRun). IsPairBy book RUN_MESSAGES same r.events.items second.events.items o.from o.to text) is
-          (subst (λ (r : BookRun). IsPairBy book RUN_MESSAGES same shown.events.items r.events.items o.from o.to text) too page)),
+      subst (λ (s : Shape). IsPairBy book RUNNING s first.events.items second.events.items o.from o.to text) e
+          (subst (λ (r : BookRun). IsPairBy book RUNNING same r.events.items second.events.items o.from o.to text) is
+          (subst (λ (r : BookRun). IsPairBy book RUNNING same shown.events.items r.events.items o.from o.to text) too page)),
     );
   }
 

@@ -6,7 +6,7 @@ use Rattle.ghs_graph.specs.Graph.{Shape}
 use Rattle.ghs_report.specs.Writing.{HasWritten}
 use Rattle.own_book.specs.Entry.{Entry}
 use Rattle.own_rules.specs.Rules.{rules_of}
-use Rattle.own_rules.specs.declared.protocol.TheConstants.{RUN_MESSAGES}
+use Rattle.own_rules.specs.declared.protocol.TheConstants.{RUNNING}
 use Rattle.own_rules.specs.Run.{IsToldBy}
 use Rattle.own_rules.specs.declared.run.BookRun.{BookRun}
 use Rattle.own_runs.specs.Again.{IsReplayBy}
@@ -65,8 +65,8 @@ IsOwnCause book stored why = (mark : Mark) × (events : List Event) × IsMarkedT
 
 -- these events are a run of the graph by this book, and what is told of it and of its end by a check
 pub record IsAgain (wake : WakeSet) (check : Option Check) (g : Shape) (book : List Entry) (events : List Event) (ran : BookRun) : Type 0 where
-  pub replay : IsReplayBy book RUN_MESSAGES g wake events ran
-  pub told : IsToldBy book RUN_MESSAGES check g ran
+  pub replay : IsReplayBy book RUNNING g wake events ran
+  pub told : IsToldBy book RUNNING check g ran
 
 -- a text of such a run
 pub record IsAgainText (wake : WakeSet) (check : Option Check) (g : Shape) (book : List Entry) (events : List Event) (end : OwnEnd)
@@ -83,7 +83,7 @@ pub record GoesOnOwn (wake : WakeSet) (check : Option Check) (g : Shape) (book :
 
 -- why there is no text
 abbrev pub StopsAgain : WakeSet → Option Check → Shape → List Entry → List Event → ServeFault → Type 0
-StopsAgain wake check g book events (serve.NotLawful k) = IsFirstUnlawful (rules_of book RUN_MESSAGES) g wake events k
+StopsAgain wake check g book events (serve.NotLawful k) = IsFirstUnlawful (rules_of book RUNNING) g wake events k
 StopsAgain wake check g book events serve.NotEnded = GoesOnOwn wake check g book events
 StopsAgain wake check g book events serve.Memory = Unit {0}
 StopsAgain wake check g book events fault = ⊥

@@ -7,7 +7,7 @@ use Rattle.ghs_report.specs.Writing.{HasWritten}
 use Rattle.own_book.specs.Entry.{Entry}
 use Rattle.own_rules.specs.Rules.{rules_of}
 use Rattle.own_rules.specs.Texts.{kinds_many, kinds_of}
-use Rattle.own_rules.specs.declared.protocol.TheConstants.{EXPLORE_MESSAGES}
+use Rattle.own_rules.specs.declared.protocol.TheConstants.{EXPLORING}
 use Rattle.own_runs.specs.Explore.{IsExploredBy}
 use Rattle.own_runs.specs.Mark.{mark_of}
 use Rattle.own_runs.specs.declared.explore.BookEnds.{BookEnds}
@@ -34,6 +34,10 @@ row_asked Run k = Some (k - 1)
 abbrev pub leads_there : List ℕ
 leads_there = codes "an order that leads there:\n"
 
+-- what is said of a run that can't be brought to an end
+abbrev pub never_ends : List ℕ
+never_ends = codes "endless: from here no run ends\n"
+
 -- the events of a run, where there is one
 abbrev pub IsTraceOf : List Entry → Option (Vec Event) → List ℕ → Type 0
 IsTraceOf book None text = ⊥
@@ -49,13 +53,15 @@ abbrev pub IsToldAs : Finding → List Entry → BookExplored → OwnEnd → Lis
 IsToldAs finding book (told.Lacks questions) e text = (e ≡ end.Asks) × (text ≡ questions.items)
 IsToldAs finding book (told.Fails f) e text =
     (e ≡ end.Fails) × (text ≡ f.text.items ++ leads_there ++ own_text (mark_of book) f.events.items)
+IsToldAs finding book (told.Endless events) e text =
+    (e ≡ end.Misses) × (text ≡ never_ends ++ leads_there ++ own_text (mark_of book) events.items)
 IsToldAs finding book (told.Misses f) e text =
     (e ≡ end.Misses) × (text ≡ f.text.items ++ leads_there ++ own_text (mark_of book) f.events.items)
 IsToldAs finding book (told.Whole x) e text = (e ≡ end.Ended) × IsFoundOwn finding book x text
 
 -- it is told of all runs of the graph by the book
 abbrev pub IsToldBy : ExploreOptions → Option Check → Shape → List Entry → BookExplored → Type 0
-IsToldBy o check g book x = IsExploredBy book EXPLORE_MESSAGES check g o.wake (row_asked o.finding o.end) x
+IsToldBy o check g book x = IsExploredBy book EXPLORING check g o.wake (row_asked o.finding o.end) x
 
 pub record IsOwnExploration (o : ExploreOptions) (check : Option Check) (g : Shape) (book : List Entry) (e : OwnEnd) (output : List ℕ)
     : Type 0 where
@@ -74,7 +80,7 @@ pub record IsNoRow (o : ExploreOptions) (check : Option Check) (g : Shape) (book
 abbrev pub HasNoOwnExploration : ExploreOptions → Option Check → Shape → List Entry → ServeFault → Type 0
 HasNoOwnExploration o check g book serve.TooManyKinds = 8 < kinds_many (kinds_of book)
 HasNoOwnExploration o check g book serve.TooLargeToExplore = IsSmall g → ⊥
-HasNoOwnExploration o check g book (serve.StateLimit most) = (most ≡ o.limit) × HasMoreStates (rules_of book EXPLORE_MESSAGES) g o.wake o.limit
+HasNoOwnExploration o check g book (serve.StateLimit most) = (most ≡ o.limit) × HasMoreStates (rules_of book EXPLORING) g o.wake o.limit
 HasNoOwnExploration o check g book (serve.NoSuchEnd rows) = IsNoRow o check g book rows
 HasNoOwnExploration o check g book serve.PartLimit = Unit {0}
 HasNoOwnExploration o check g book serve.Memory = Unit {0}

@@ -1,5 +1,5 @@
 -- What the program prints of a run by a book, and how that ends.
-use Rattle.std.specs.Prelude.{◌≡◌, ◌≢◌, ◌⊎◌, ℕ, ◌<◌, Bool, false, true, length, List, [], Option, None, Some, Result, Ok, Err}
+use Rattle.std.specs.Prelude.{◌≡◌, ◌≢◌, ◌⊎◌, ℕ, ◌<◌, false, true, length, List, [], Option, None, Some, Result, Ok, Err}
 use Rattle.ghs_answers.specs.Timing.{timed_text}
 use Rattle.ghs_choices.specs.declared.check.Check.{Check}
 use Rattle.ghs_choices.specs.declared.schedule_kind.ScheduleKind.TheVariants.{Seeded}
@@ -8,7 +8,7 @@ use Rattle.ghs_report.specs.Writing.{HasWritten}
 use Rattle.own_book.specs.Entry.{Entry}
 use Rattle.own_rules.specs.Rules.{rules_of}
 use Rattle.own_rules.specs.Run.{IsRunBy, IsToldBy, StandsBy}
-use Rattle.own_rules.specs.declared.protocol.TheConstants.{RUN_MESSAGES}
+use Rattle.own_rules.specs.declared.protocol.TheConstants.{RUNNING}
 use Rattle.own_rules.specs.declared.run.BookRun.{BookRun}
 use Rattle.own_runs.specs.Mark.{mark_of}
 use Rattle.peer_network.specs.declared.wake_set.WakeSet.{WakeSet}
@@ -29,9 +29,9 @@ own_status Misses = 9
 
 -- the run by this book that a seed picks, and what is told of it and of its end by a check
 pub record IsSeedsRun (seed turns : ℕ) (wake : WakeSet) (check : Option Check) (g : Shape) (book : List Entry) (ran : BookRun) : Type 0 where
-  pub run : IsRunBy book RUN_MESSAGES seed turns g wake ran.events.items
-  pub stands : StandsBy book RUN_MESSAGES turns g wake ran.events.items ran.at_limit
-  pub told : IsToldBy book RUN_MESSAGES check g ran
+  pub run : IsRunBy book RUNNING seed turns g wake ran.events.items
+  pub stands : StandsBy book RUNNING turns g wake ran.events.items ran.at_limit
+  pub told : IsToldBy book RUNNING check g ran
 
 -- that of the options
 abbrev pub IsOwnRun : RunOptions → Option Check → Shape → List Entry → BookRun → Type 0
@@ -62,7 +62,7 @@ IsPrintedAs Shows ran Ended text = IsOwnEnd ran Ended × Shows text
 abbrev pub IsShownOwn : Show → List Entry → Shape → BookRun → List ℕ → Type 0
 IsShownOwn Summary book g ran text = text ≡ ran.account.items
 IsShownOwn Events book g ran text = text ≡ own_text (mark_of book) ran.events.items
-IsShownOwn Time book g ran text = text ≡ timed_text (rules_of book RUN_MESSAGES) Seeded g ran.events.items
+IsShownOwn Time book g ran text = text ≡ timed_text (rules_of book RUNNING) Seeded g ran.events.items
 
 -- what goes out of a run that ends so; or of one whose turns are used, where its events are asked for
 abbrev pub IsOutputOf : Show → List Entry → Shape → BookRun → Option OwnEnd → List ℕ → Type 0

@@ -5,7 +5,7 @@ use Rattle.ghs_graph.specs.Graph.{Shape}
 use Rattle.ghs_report.specs.Writing.{HasWritten}
 use Rattle.own_book.specs.Entry.{Entry}
 use Rattle.own_rules.specs.Texts.{kinds_many, kinds_of}
-use Rattle.own_rules.specs.declared.protocol.TheConstants.{RUN_MESSAGES}
+use Rattle.own_rules.specs.declared.protocol.TheConstants.{RUNNING}
 use Rattle.own_runs.specs.Sweep.{AreFiguresBy, layout_by}
 use Rattle.own_runs.specs.declared.sweep.BookFigures.{BookFigures}
 use Rattle.peer_sweep.specs.Front.{bare_front}
@@ -21,7 +21,7 @@ use Rattle.own_cli.specs.declared.run.OwnEnd.TheVariants.{Ended, Asks, Fails, Mi
 
 -- the run by the book that a seed picks, with what a check says of its end
 abbrev pub IsSeedOf : List Entry → Option Check → Shape → Setup → ℕ → BookFigures → Type 0
-IsSeedOf book check g setup seed x = AreFiguresBy book RUN_MESSAGES check seed setup.turns g setup.wake x
+IsSeedOf book check g setup seed x = AreFiguresBy book RUNNING check seed setup.turns g setup.wake x
 
 -- the book lacks no answer in a run, no node has stopped by one, and its end isn't wrong, if it has ended
 pub record IsQuiet (x : BookFigures) : Type 0 where

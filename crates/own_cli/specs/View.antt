@@ -4,7 +4,7 @@ use Rattle.ghs_graph.specs.Graph.{Shape}
 use Rattle.ghs_report.specs.Writing.{HasWritten}
 use Rattle.own_book.specs.Entry.{Entry}
 use Rattle.own_rules.specs.Rules.{rules_of}
-use Rattle.own_rules.specs.declared.protocol.TheConstants.{RUN_MESSAGES}
+use Rattle.own_rules.specs.declared.protocol.TheConstants.{RUNNING}
 use Rattle.own_rules.specs.declared.run.BookRun.{BookRun}
 use Rattle.peer_network.specs.declared.event.Event.{Event}
 use Rattle.peer_page.specs.Limits.{IsPairTooLarge, IsTooLarge}
@@ -37,7 +37,7 @@ IsShownRun o seed = IsSeedsRun seed o.turns o.wake None
 pub record IsOneView (o : ViewOptions) (g : Shape) (book : List Entry) (end : OwnEnd) (output : List ℕ) : Type 0 where
   pub ran : BookRun
   pub run : IsShownRun o o.seed g book ran
-  pub printed : IsTrouble ran end output ⊎ ((end ≡ Ended) × IsSound ran × IsPageBy book RUN_MESSAGES g ran.events.items o.from o.to output)
+  pub printed : IsTrouble ran end output ⊎ ((end ≡ Ended) × IsSound ran × IsPageBy book RUNNING g ran.events.items o.from o.to output)
 
 -- of two, where the trouble of the first comes first
 abbrev pub IsPairTrouble : BookRun → BookRun → OwnEnd → List ℕ → Type 0
@@ -50,7 +50,7 @@ pub record IsTwoView (o : ViewOptions) (beside : ℕ) (g : Shape) (book : List E
   pub other : IsShownRun o beside g book second
   pub printed :
       IsPairTrouble first second end output
-      ⊎ ((end ≡ Ended) × IsSound first × IsSound second × IsPairBy book RUN_MESSAGES g first.events.items second.events.items o.from o.to output)
+      ⊎ ((end ≡ Ended) × IsSound first × IsSound second × IsPairBy book RUNNING g first.events.items second.events.items o.from o.to output)
 
 abbrev pub IsViewBy : Option ℕ → ViewOptions → Shape → List Entry → OwnEnd → List ℕ → Type 0
 IsViewBy None o g book = IsOneView o g book
@@ -90,7 +90,7 @@ HasViewedOwn o g book old new (Err fault) = HasNoOwnView o g book fault × (new 
 
 -- the page of a stored run, which needn't have ended
 abbrev pub IsStoredOwnView : StoredViewOptions → Shape → List Entry → List Event → List ℕ → Type 0
-IsStoredOwnView o g book = IsStoredView (rules_of book RUN_MESSAGES) (IsPageBy book RUN_MESSAGES) o g
+IsStoredOwnView o g book = IsStoredView (rules_of book RUNNING) (IsPageBy book RUNNING) o g
 
 abbrev pub HasStoredOwnView : StoredViewOptions → Shape → List Entry → List Event → Option (List ℕ) → Option (List ℕ) →
     Result (Unit {0}) ServeFault → Type 0
@@ -98,4 +98,4 @@ HasStoredOwnView o g book events old new (Ok u) =
     (output : List ℕ) × IsStoredOwnView o g book events output × HasWritten old new output (length output)
 HasStoredOwnView o g book events old new (Err (serve.Write written)) =
     (output : List ℕ) × IsStoredOwnView o g book events output × (written < length output) × HasWritten old new output written
-HasStoredOwnView o g book events old new (Err fault) = HasNoStoredView (rules_of book RUN_MESSAGES) o g events fault × (new ≡ old)
+HasStoredOwnView o g book events old new (Err fault) = HasNoStoredView (rules_of book RUNNING) o g events fault × (new ≡ old)

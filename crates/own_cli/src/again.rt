@@ -9,7 +9,7 @@ ghost use Rattle.ghs_answers.specs.declared.fault.ServeFault.{ServeFault};
 ghost use Rattle.own_book.specs.Entry.{Entry};
 ghost use Rattle.own_rules.specs.Rules.{rules_of};
 ghost use Rattle.own_rules.specs.Words.{words_of};
-ghost use Rattle.own_rules.specs.declared.protocol.TheConstants.{RUN_MESSAGES};
+ghost use Rattle.own_rules.specs.declared.protocol.TheConstants.{RUNNING};
 ghost use Rattle.own_runs.specs.Mark.{Misfits};
 ghost use Rattle.peer_runs.specs.Replays.{IsFirstUnlawful};
 ghost use Rattle.peer_trace.specs.Reading.{HasOwnFault};
@@ -211,7 +211,7 @@ pub fn steps_by_book<W: Sink>(
     out: &mut W,
 ) -> Result<(), ServeFault>
     requires { W.has_failed out.old ≡ false }
-    ensures told { HasTold (AreSteps (rules_of rules.now RUN_MESSAGES) (words_of rules.now) options.now graph events.now) (IsFirstUnlawful (rules_of rules.now RUN_MESSAGES) graph options.now.wake events.now) (W.held out.old) (W.held out.new) result }
+    ensures told { HasTold (AreSteps (rules_of rules.now RUNNING) (words_of rules.now) options.now graph events.now) (IsFirstUnlawful (rules_of rules.now RUNNING) graph options.now.wake events.now) (W.held out.old) (W.held out.new) result }
     ensures write { IsWrite result ↔ (W.has_failed out.new ≡ true) }
 {
     write_steps_book(

@@ -1,8 +1,9 @@
 //! All runs of a small network by a user's own protocol.
 ghost use Rattle.ghs_answers.specs.Causes.{IsUnwritten};
 ghost use Rattle.ghs_commands.specs.Job.{AreExploreLimits};
-ghost use Rattle.own_cli.specs.Explore.{HasExploredOwn, HasNoOwnExploration, IsFoundOwn, IsOwnExploration, IsToldAs, IsToldBy, leads_there, row_asked};
+ghost use Rattle.own_cli.specs.Explore.{HasExploredOwn, HasNoOwnExploration, IsFoundOwn, IsOwnExploration, IsToldAs, IsToldBy, leads_there, never_ends, row_asked};
 ghost use Rattle.own_runs.specs.Mark.{mark_of as mark_of_book};
+ghost use Rattle.own_cli.specs.declared.run.OwnEnd.TheVariants.{Misses};
 ghost use Rattle.own_runs.specs.declared.explore.BookExplored.TheVariants.{Whole};
 ghost use Rattle.own_book.specs.Entry.{Entry};
 ghost use Rattle.peer_trace.specs.Text.{own_text};
@@ -21,14 +22,15 @@ use own_runs::explore::{BookEnds, BookExplored, ExploreBookFault, Failure, explo
 use own_runs::mark::mark_of;
 use peer_explore::fault::ExploreFault;
 use peer_explore::watch::Unwatched;
+use peer_network::event::Event;
 use peer_trace::mark::OwnMark;
 use peer_trace::own::write_own_trace;
 use std::alloc::{AllocError, Global};
 
 /// Explores all runs of a small network by a book, and writes with which counts of messages they end, or the events of the run that is
 /// asked for. It says how that ends: where some run lacks an answer, all questions that the runs lack go out in their place; and where
-/// none does but a node stops by an answer, what is said of that, and the events of a run that leads there. The text is made whole before
-/// its first byte goes out. Faults: the greeting has more than eight kinds; the network is too large; and then, whichever is met first,
+/// none does but a node stops by an answer, or a run can't be brought to an end, what is said of that, and the events of a run that
+/// leads there. The text is made whole before its first byte goes out. Faults: the greeting has more than eight kinds; the network is too large; and then, whichever is met first,
 /// more states than the limit, more parts than the search has numbers, lack of memory; no such row; and then a write that fails.
 ///
 /// ```text
@@ -142,15 +144,33 @@ fn told_as(
             end: OwnEnd::Fails,
             text: failed(alloc, mark, failure)?,
         }),
-        BookExplored::Misses(failure) => Ok(OwnTold {
-            end: OwnEnd::Misses,
-            text: failed(alloc, mark, failure)?,
-        }),
+        BookExplored::Endless(events) => Ok(missed(alloc, mark, endless(alloc, events)?)?),
+        BookExplored::Misses(failure) => Ok(missed(alloc, mark, failure)?),
         BookExplored::Whole(found) => Ok(OwnTold {
             end: OwnEnd::Ended,
             text: found_text(alloc, options, graph, mark, rules, check, found)?,
         }),
     }
+}
+
+/// What is printed of a run that doesn't end as it has to.
+fn missed(alloc: Global, mark: &OwnMark, failure: Failure) -> Result<OwnTold, AllocError>
+    ensures end { IfOk result (λ told. told.end ≡ Misses) }
+    ensures text { IfOk result (λ told. (book : List Entry) → mark.now ≡ mark_of_book book → told.text.items ≡ failure.text.items ++ leads_there ++ own_text (mark_of_book book) failure.events.items) }
+{
+    Ok(OwnTold {
+        end: OwnEnd::Misses,
+        text: failed(alloc, mark, failure)?,
+    })
+}
+
+/// What is said of a run that can't be brought to an end.
+fn endless(alloc: Global, events: Vec<Event>) -> Result<Failure, AllocError>
+    ensures events { IfOk result (λ f. f.events ≡ events) }
+    ensures text { IfOk result (λ f. f.text.items ≡ never_ends) }
+{
+    let text = Vec::from_slice(alloc, b"endless: from here no run ends\n")?;
+    Ok(Failure { events, text })
 }
 
 /// What is said of answers, or of an end, and the events of a run that leads there.

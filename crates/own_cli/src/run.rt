@@ -6,7 +6,7 @@ ghost use Rattle.ghs_choices.specs.declared.schedule_kind.ScheduleKind.TheVarian
 ghost use Rattle.ghs_graph.specs.Graph.{Shape};
 ghost use Rattle.own_book.specs.Entry.{Entry};
 ghost use Rattle.own_rules.specs.Rules.{rules_of};
-ghost use Rattle.own_rules.specs.declared.protocol.TheConstants.{RUN_MESSAGES};
+ghost use Rattle.own_rules.specs.declared.protocol.TheConstants.{RUNNING};
 ghost use Rattle.own_runs.specs.Mark.{mark_of as mark_of_book};
 ghost use Rattle.peer_machine.specs.Run.{IsRun};
 ghost use Rattle.peer_network.specs.Network.{network_of};
@@ -39,7 +39,7 @@ pub enum OwnEnd {
     Asks,
     /// A node has stopped by an answer, or the greeting is none.
     Fails,
-    /// It has ended otherwise than `--check` asks.
+    /// It has ended otherwise than `--check` asks; of all runs also, that one can't be brought to an end.
     Misses,
 }
 
@@ -154,7 +154,7 @@ fn output_of(
     ran: BookRun,
 ) -> Result<OwnOutput, ServeFault>
     requires mark { mark.now ≡ mark_of_book rules.now }
-    requires run { IsRun (rules_of rules.now RUN_MESSAGES) (network_of graph.now) ran.events.items }
+    requires run { IsRun (rules_of rules.now RUNNING) (network_of graph.now) ran.events.items }
     ensures output { IfOk result (λ o. IsOutputOf show rules.now graph.now ran o.end o.text.items) }
     ensures fault { IfErr result (StopsOutput show ran) }
 {
@@ -198,7 +198,7 @@ fn text_at(
     ran: BookRun,
 ) -> Result<Vec<u8>, AllocError>
     requires mark { mark.now ≡ mark_of_book rules.now }
-    requires run { IsRun (rules_of rules.now RUN_MESSAGES) (network_of graph.now) ran.events.items }
+    requires run { IsRun (rules_of rules.now RUNNING) (network_of graph.now) ran.events.items }
     requires end { IsOwnEnd ran end }
     ensures { IfOk result (λ text. IsPrintedAs (IsShownOwn show rules.now graph.now ran) ran end text.items) }
 {
@@ -220,7 +220,7 @@ fn shown(
     ran: BookRun,
 ) -> Result<Vec<u8>, AllocError>
     requires mark { mark.now ≡ mark_of_book rules.now }
-    requires run { IsRun (rules_of rules.now RUN_MESSAGES) (network_of graph.now) ran.events.items }
+    requires run { IsRun (rules_of rules.now RUNNING) (network_of graph.now) ran.events.items }
     ensures { IfOk result (λ text. IsShownOwn show rules.now graph.now ran text.items) }
 {
     match show {
@@ -237,8 +237,8 @@ fn timed(
     graph: &Graph,
     events: &[Event],
 ) -> Result<Vec<u8>, AllocError>
-    requires { IsRun (rules_of rules.now RUN_MESSAGES) (network_of graph.now) events.now }
-    ensures { IfOk result (λ text. text.items ≡ timed_text (rules_of rules.now RUN_MESSAGES) Seeded graph.now events.now) }
+    requires { IsRun (rules_of rules.now RUNNING) (network_of graph.now) events.now }
+    ensures { IfOk result (λ text. text.items ≡ timed_text (rules_of rules.now RUNNING) Seeded graph.now events.now) }
 {
     let lengths = time_by_book(alloc, rules, graph, events)?;
     time_text(alloc, ScheduleKind::Seeded, lengths)

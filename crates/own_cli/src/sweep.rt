@@ -3,7 +3,7 @@ ghost use Rattle.ghs_answers.specs.Causes.{IsUnwritten};
 ghost use Rattle.ghs_answers.specs.Sheets.{count_of, setup_of as setup_by};
 ghost use Rattle.ghs_commands.specs.Job.{AreSweepLimits};
 ghost use Rattle.own_cli.specs.Sweep.{HasNoOwnSweep, HasSweptOwn, IsOwnSweep, IsQuiet, IsSheetOf, IsSoundRun, IsTroubleOf, IsTroubledAt, IsTroubledSweep, seed_line};
-ghost use Rattle.own_rules.specs.declared.protocol.TheConstants.{RUN_MESSAGES};
+ghost use Rattle.own_rules.specs.declared.protocol.TheConstants.{RUNNING};
 ghost use Rattle.own_runs.specs.Sweep.{AreFiguresBy, layout_by};
 ghost use Rattle.peer_sweep.specs.Sweep.{AreRuns};
 ghost use Rattle.std.specs.Prelude.{◌≡◌, ◌+◌, ◌++◌, ◌↔◌, [], false, length, true, IfErr, IfNone, IfOk, IfSome};

@@ -3,7 +3,7 @@ ghost use Rattle.ghs_answers.specs.StoredView.{HasNoStoredView};
 ghost use Rattle.own_cli.specs.View.{HasNoOwnView, HasStoredOwnView, HasViewedOwn, IsOneView, IsOwnView, IsPairTrouble, IsShownRun, IsSound, IsStoredOwnView, IsTrouble, IsTwoView};
 ghost use Rattle.own_view.specs.Page.{IsPageBy, IsPairBy};
 ghost use Rattle.own_rules.specs.Rules.{rules_of};
-ghost use Rattle.own_rules.specs.declared.protocol.TheConstants.{RUN_MESSAGES};
+ghost use Rattle.own_rules.specs.declared.protocol.TheConstants.{RUNNING};
 ghost use Rattle.ghs_answers.specs.Causes.{IsUnwritten};
 ghost use Rattle.std.specs.Prelude.{◌≡◌, ◌↔◌, false, true, IfErr, IfNone, IfOk, IfSome, None, Some};
 
@@ -127,7 +127,7 @@ fn page_of(
 ) -> Result<Vec<u8>, ServeFault>
     requires alone { options.now.beside ≡ None }
     requires run { IsShownRun options.now options.now.seed graph rules.now ran.now }
-    ensures page { IfOk result (λ text. IsPageBy rules.now RUN_MESSAGES graph ran.now.events.items options.now.from options.now.to text.items) }
+    ensures page { IfOk result (λ text. IsPageBy rules.now RUNNING graph ran.now.events.items options.now.from options.now.to text.items) }
     ensures fault { IfErr result (HasNoOwnView options.now graph rules.now) }
 {
     match run_page_book(alloc, rules, graph, &ran.events, options.from, options.to) {
@@ -185,7 +185,7 @@ fn pair_of(
     requires beside { options.now.beside ≡ Some beside }
     requires first { IsShownRun options.now options.now.seed graph rules.now first.now }
     requires second { IsShownRun options.now beside graph rules.now second.now }
-    ensures page { IfOk result (λ text. IsPairBy rules.now RUN_MESSAGES graph first.now.events.items second.now.events.items options.now.from options.now.to text.items) }
+    ensures page { IfOk result (λ text. IsPairBy rules.now RUNNING graph first.now.events.items second.now.events.items options.now.from options.now.to text.items) }
     ensures fault { IfErr result (HasNoOwnView options.now graph rules.now) }
 {
     match pair_page_book(
@@ -237,7 +237,7 @@ fn stored_text(
     events: &[Event],
 ) -> Result<Vec<u8>, ServeFault>
     ensures page { IfOk result (λ text. IsStoredOwnView options.now graph rules.now events.now text.items) }
-    ensures fault { IfErr result (HasNoStoredView (rules_of rules.now RUN_MESSAGES) options.now graph events.now) }
+    ensures fault { IfErr result (HasNoStoredView (rules_of rules.now RUNNING) options.now graph events.now) }
 {
     match stored_page_book(
         alloc,

@@ -1,17 +1,17 @@
 -- What is wrong with the end of a run, found link by link and node by node.
-use Rattle.std.proofs.Common.{◌≡◌, ◌∙◌, ◌+◌, ◌<◌, ◌≤◌, ◌==◌, ◌&&◌, ◌≢◌, ℕ, zero, suc, Bool, true, false, not, cond, List, [], ◌∷◌, ap, ap₂, arith, drop, filter, get_or, length, map, refl, replicate, set, subst, sym, ⊎_elim, Some, None}
-use Rattle.std.proofs.lemmas.Bool.{cases_eq, cases_lt, eq-eqb, ne_eqb}
-use Rattle.std.proofs.lemmas.List.{drop_more, get_or-replicate, get_or-set_other, get_or-set_same, get_or_default, length-replicate, length-set}
+use Rattle.std.proofs.Common.{◌≡◌, ◌∙◌, ◌+◌, ◌<◌, ◌≤◌, ◌==◌, ◌&&◌, ◌≢◌, ℕ, zero, suc, Bool, true, false, not, cond, List, [], ◌∷◌, ap, ap₂, arith, filter, get_or, length, map, refl, subst, sym, ⊎_elim, Some, None}
+use Rattle.std.proofs.lemmas.Bool.{cases_lt, eq-eqb, ne_eqb}
+use Rattle.std.proofs.lemmas.List.{get_or_default}
 use Rattle.std.proofs.lemmas.List.Elements.{All-filter}
 use Rattle.std.proofs.lemmas.List.Kept.{AllPairs-filter}
 use Rattle.ghs_graph.specs.Components.{IsRoot}
 use Rattle.ghs_graph.specs.Graph.{IsGraph, Shape}
-use Rattle.ghs_graph.specs.Key.{key_lt, no_key}
+use Rattle.ghs_graph.specs.Key.{key_lt}
 use Rattle.ghs_graph.specs.Links.{AreAmong, IsRising, Same}
 use Rattle.ghs_graph.specs.declared.key.Key.{Key}
 use Rattle.ghs_graph.proofs.lemmas.Components.{nodes_have_roots, root_is_one}
 use Rattle.own_book.specs.Entry.{Entry}
-use Rattle.own_rules.specs.Check.{AreRootsBy, count_nodes, first_node, first_odd, is_misled, keys_where, leaders, leads, leads_for, links_seen, seen, sooner}
+use Rattle.own_rules.specs.Check.{AreRootsBy, count_nodes, first_node, is_misled, keys_where, leaders, leads_for, links_seen, seen, sooner}
 use Rattle.own_rules.specs.declared.check.Seen.{Seen}
 use Rattle.own_rules.specs.declared.node.Node.{Node}
 use Rattle.own_rules.specs.Words.{mark_at}
@@ -55,43 +55,8 @@ module _ (book : List Entry) (g : Shape) (node : ℕ → Node) where
       subst (AreAmong g.nodes) (sym (wanted_keys p g.keys))
       (All-filter (λ k. p (seen book g node k)) (λ (k : Key). (1 ≤ k.a) × (k.a < k.b) × (k.b ≤ g.nodes)) g.keys ok.among)
 
--- The first link that one of two lists has and the other hasn't.
-module _ (ms : List Key) (i : ℕ) (lt : i < length ms) where
-  abbrev here : Key
-  here = get_or ms i no_key
-
-  at_here : (ts : List Key) → first_odd (drop i ms) ts ≡ first_odd (here ∷ drop (i + 1) ms) ts
-  at_here ts = ap (λ xs. first_odd xs ts) (drop_more ms i no_key lt)
-
-  pub odd_alone : (ts : List Key) → ts ≡ [] → first_odd (drop i ms) ts ≡ Some (get_or ms i no_key, true)
-  odd_alone ts none = at_here ts ∙ ap (first_odd (here ∷ drop (i + 1) ms)) none
-
-  module _ (ts : List Key) (t : Key) (more : List Key) (is : ts ≡ t ∷ more) where
-    both : first_odd (drop i ms) ts ≡
-        cond (key_lt here t) (Some (here, true)) (cond (key_lt t here) (Some (t, false)) (first_odd (drop (i + 1) ms) more))
-    both = at_here ts ∙ ap (first_odd (here ∷ drop (i + 1) ms)) is
-
-    pub odd_below : key_lt (get_or ms i no_key) t ≡ true → first_odd (drop i ms) ts ≡ Some (get_or ms i no_key, true)
-    odd_below below = both ∙ ap (λ b. cond b (Some (here, true)) (cond (key_lt t here) (Some (t, false)) (first_odd (drop (i + 1) ms) more))) below
-
-    pub odd_above : key_lt (get_or ms i no_key) t ≡ false → key_lt t (get_or ms i no_key) ≡ true → first_odd (drop i ms) ts ≡ Some (t, false)
-    odd_above isnt above =
-        both ∙ ap (λ b. cond b (Some (here, true)) (cond (key_lt t here) (Some (t, false)) (first_odd (drop (i + 1) ms) more))) isnt
-        ∙ ap (λ b. cond b (Some (t, false)) (first_odd (drop (i + 1) ms) more)) above
-
-    pub odd_later : key_lt (get_or ms i no_key) t ≡ false → key_lt t (get_or ms i no_key) ≡ false →
-        first_odd (drop i ms) ts ≡ first_odd (drop (i + 1) ms) more
-    odd_later isnt none =
-        both ∙ ap (λ b. cond b (Some (here, true)) (cond (key_lt t here) (Some (t, false)) (first_odd (drop (i + 1) ms) more))) isnt
-        ∙ ap (λ b. cond b (Some (t, false)) (first_odd (drop (i + 1) ms) more)) none
-
 -- The first node of which something holds.
 module _ (p : ℕ → Bool) where
-  pub first_not : (n : ℕ) → first_node p n ≡ None → p (n + 1) ≡ false → first_node p (n + 1) ≡ None
-  first_not n none isnt =
-      let next : n + 1 ≡ suc n = omega arith in
-      ap (first_node p) next ∙ ap (λ o. sooner o (p (suc n)) (suc n)) none ∙ ap (λ b. cond b (Some (suc n)) None) (ap p (sym next) ∙ isnt)
-
   first_stays : (v n most : ℕ) → first_node p n ≡ Some v → n ≤ most → first_node p most ≡ Some v
   first_stays v n zero found le = let none : zero ≡ n = omega (arith, le) in ap (first_node p) none ∙ found
   first_stays v n (suc m) found le =
@@ -113,64 +78,6 @@ module _ (book : List Entry) (g : Shape) (node : ℕ → Node) where
   pub record Counted (i : ℕ) (counts : List ℕ) : Type 0 where
     pub places : length counts ≡ g.nodes + 1
     pub each : (root : ℕ → ℕ) → AreRootsBy g root → (r : ℕ) → r ≤ g.nodes → get_or counts r 0 ≡ count_nodes (leads_for book g node root r) i
-
-  pub none_counted : (counts : List ℕ) → counts ≡ replicate (g.nodes + 1) 0 → Counted 0 counts
-  none_counted counts is = rw is (record {
-    places = length-replicate (g.nodes + 1) 0;
-    each = λ root are r hi. get_or-replicate (g.nodes + 1) r 0 0 (omega (arith, hi));
-  })
-
-  counted_next : (root : ℕ → ℕ) (r i : ℕ) → count_nodes (leads_for book g node root r) (i + 1)
-      ≡ count_nodes (leads_for book g node root r) i + cond (leads_for book g node root r (i + 1)) 1 0
-  counted_next root r i =
-      let next : i + 1 ≡ suc i = omega arith in
-      ap (count_nodes (leads_for book g node root r)) next
-      ∙ ap (λ v. count_nodes (leads_for book g node root r) i + cond (leads_for book g node root r v) 1 0) (sym next)
-
-  -- node i + 1 doesn't lead
-  pub not_counted : (i : ℕ) (counts : List ℕ) → Counted i counts → leads book (node (i + 1)).state ≡ false → Counted (i + 1) counts
-  not_counted i counts so isnt = record {
-    places = so.places;
-    each = λ root are r hi.
-        let none : leads_for book g node root r (i + 1) ≡ false = ap (λ b. (root (i + 1) == r) && b) isnt ∙ and_false (root (i + 1) == r) in
-        let more = counted_next root r i ∙ ap (λ b. count_nodes (leads_for book g node root r) i + cond b 1 0) none in
-        let was = so.each root are r hi in
-        omega (arith, more, was);
-  }
-    where
-      and_false : (b : Bool) → (b && false) ≡ false
-      and_false true = refl
-      and_false false = refl
-
-  -- it does, and counts for its component
-  pub one_counted : (i at old : ℕ) (counts : List ℕ) → Counted i counts → i < g.nodes → IsRoot g.keys (i + 1) at →
-      leads book (node (i + 1)).state ≡ true → old ≡ get_or counts at old → Counted (i + 1) (set counts at (old + 1))
-  one_counted i at old counts so lt top led is =
-      let low : at ≤ i + 1 = top.least (i + 1) Same in
-      let fits : at < length counts = let places = so.places in omega (arith, low, lt, places) in
-      let read : old ≡ get_or counts at 0 = is ∙ get_or_default counts at old 0 fits in
-      record {
-        places = length-set counts at (old + 1) ∙ so.places;
-        each = λ root are r hi.
-            let mine : root (i + 1) ≡ at = root_is_one g.keys (i + 1) (root (i + 1)) at (are (i + 1) (omega arith) (omega (arith, lt))) top in
-            let more = counted_next root r i in
-            let was = so.each root are r hi in
-            ⊎_elim
-            (λ (e : r ≡ at).
-            let counts_for : leads_for book g node root r (i + 1) ≡ true =
-            ap₂ (λ b c. b && c) (eq-eqb (root (i + 1)) r (mine ∙ sym e)) led in
-            let there : get_or (set counts at (old + 1)) r 0 ≡ old + 1 =
-            ap (λ x. get_or (set counts at (old + 1)) x 0) e ∙ get_or-set_same counts at (old + 1) 0 fits in
-            let before : old ≡ count_nodes (leads_for book g node root r) i = read ∙ ap (λ x. get_or counts x 0) (sym e) ∙ was in
-            let one = ap (λ b. count_nodes (leads_for book g node root r) i + cond b 1 0) counts_for in
-            there ∙ omega (arith, before, more, one))
-            (λ (n : r ≢ at).
-            let counts_not : leads_for book g node root r (i + 1) ≡ false =
-            ap (λ b. b && leads book (node (i + 1)).state) (ne_eqb (root (i + 1)) r (λ e. n (sym e ∙ mine))) in
-            let none = ap (λ b. count_nodes (leads_for book g node root r) i + cond b 1 0) counts_not in
-            get_or-set_other counts at r (old + 1) 0 n ∙ was ∙ omega (arith, more, none))
-            (cases_eq r at);
-      }
 
   -- a root for each node
   abbrev pub root_of : ℕ → ℕ

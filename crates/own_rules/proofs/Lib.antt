@@ -1,7 +1,7 @@
 -- Serves the proofs: nothing here has to be believed.
 mod Numbering
 mod Placing
-mod Paying
+mod Ending
 mod Readying
 pub mod Stopping
 pub mod Running

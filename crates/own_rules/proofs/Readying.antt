@@ -1,8 +1,9 @@
 -- What is ready is what the answer does.
-use Rattle.std.proofs.Common.{◌≡◌, ◌∙◌, ◌++◌, ◌+◌, ◌-◌, ◌≤◌, ℕ, Bool, true, false, List, [], ◌∷◌, length, refl, sym, ap, subst, get_or, zero, suc, arith, Option, Some, None, IfSome, IfOk, Result, Ok, Err, nat_le, leb-true, ltb-true, length-append}
+use Rattle.std.proofs.Common.{◌≡◌, ◌∙◌, ◌++◌, ◌+◌, ◌-◌, ◌≤◌, ◌&&◌, cond, ℕ, Bool, true, false, List, [], ◌∷◌, length, refl, sym, ap, subst, get_or, zero, suc, arith, Option, Some, None, IfSome, IfOk, Result, Ok, Err, nat_le, ltb-true, length-append}
 use Rattle.std.specs.Option.{is_some}
 use Rattle.std.specs.Prelude.{nat_lt, position, slice_get}
 use Rattle.std.proofs.lemmas.Bool.{cond-false, cond-true, le-leb, lt-ltb}
+use Rattle.std.proofs.lemmas.List.{length-map}
 use Rattle.std.proofs.lemmas.List.Quantifiers.{position-Some}
 use Rattle.std.proofs.lemmas.Option.{same_Some, slice_get-get_or}
 use Rattle.own_book.specs.Answer.{Saying, reacts, saying, sends_in}
@@ -12,9 +13,10 @@ use Rattle.own_book.specs.Variables.{says_asleep}
 use Rattle.own_book.specs.declared.answer_fault.AnswerFault.TheVariants.{NoKind, NoPort, StillAsleep}
 use Rattle.own_rules.specs.Deed.{cost, deed_by, deed_of, deed_said, goes_on, left_then, paid, paid_by, reaction_fault, unless_faulty}
 use Rattle.own_rules.specs.Questions.{asked_for, asks, is_lookup, lookup_of}
-use Rattle.own_rules.specs.Ready.{AnswersSo, AreReady, Does, IsReady}
-use Rattle.own_rules.specs.Rules.{numbered}
+use Rattle.own_rules.specs.Ready.{AnswersSo, AreReady, Does, IsReady, price}
+use Rattle.own_rules.specs.Rules.{message_in, numbered}
 use Rattle.own_rules.specs.Texts.{Text, kinds_of, number_in, texts_of}
+use Rattle.own_rules.specs.declared.node.Allowance.{Allowance}
 use Rattle.own_rules.specs.declared.node.Lookup.{Lookup}
 use Rattle.own_rules.specs.declared.ready.Ready.{Ready}
 use Rattle.own_rules.proofs.Placing.{answer_is, same_is}
@@ -43,18 +45,6 @@ module _ (kinds : Text) (few many : ℕ) (le : few ≤ many) where
   fault_by after sends false e h =
       cond-false (says_asleep after) _ _ e ∙ sends_more sends (sym (cond-false (says_asleep after) _ _ e) ∙ h)
 
--- what is left of the most tells the cost
-
-cost_by : (most c left : ℕ) (b : Bool) → nat_le c most ≡ b → left_then most c ≡ Some left → most - left ≡ c
-cost_by most c left false e h = let no : None ≡ Some left = sym (cond-false (nat_le c most) _ _ e) ∙ h in cc
-cost_by most c left true e h =
-    let le = leb-true c most e in
-    let same = same_Some _ _ (sym (cond-true (nat_le c most) _ _ e) ∙ h) in
-    omega (arith, le, same)
-
-pub cost_is : (most c left : ℕ) → left_then most c ≡ Some left → most - left ≡ c
-cost_is most c left h = cost_by most c left (nat_le c most) refl h
-
 pub none_of : {X : Type 0} (o : Option X) → is_some o ≡ false → o ≡ None
 none_of None h = refl
 none_of (Some x) h = cc
@@ -63,18 +53,21 @@ none_of (Some x) h = cc
 
 module _ (texts : List Text) (kinds : Text) (r : Ready) where
   pub reaction_ready : (after sends : Text) → reaction_fault kinds r.ports after (sends_in sends) ≡ None →
-      r.cost ≡ cost r.waits (sends_in sends) → r.after ≡ number_in texts after → r.sends.items ≡ numbered texts (sends_in sends) →
+      r.after ≡ number_in texts after → r.sends.items ≡ numbered texts (sends_in sends) →
       IsReady texts kinds (Some (reacts after r.waits sends)) r
-  reaction_ready after sends none price state list ports left wide rich =
-      let c = cost r.waits (sends_in sends) in
+  reaction_ready after sends none state list ports left wide rich =
+      let c = cost left r.waits (sends_in sends) in
+      let many : length r.sends.items ≡ length (sends_in sends) = ap length list ∙ length-map (sends_in sends) (message_in texts) in
+      let same : price left r ≡ c = ap (λ n. n + cond (r.waits && left.deferrals) 1 0) many in
       let fine : reaction_fault kinds ports after (sends_in sends) ≡ None =
       fault_by kinds r.ports ports wide after (sends_in sends) (says_asleep after) refl none in
-      let pays : left_then left c ≡ Some (left - c) = cond-true (nat_le c left) _ _ (le-leb c left (omega (arith, rich, price))) in
-      let does : deed_said kinds ports left (Some (reacts after r.waits sends)) ≡ goes_on after r.waits (sends_in sends) (left - c) =
+      let pays : left_then left c ≡ Some (record left { messages = left.messages - c }) =
+      cond-true (nat_le c left.messages) _ _ (le-leb c left.messages (omega (arith, rich, same))) in
+      let does : deed_said kinds ports left (Some (reacts after r.waits sends))
+      ≡ goes_on after r.waits (sends_in sends) (record left { messages = left.messages - c }) =
       ap (λ f. unless_faulty f (paid left after r.waits (sends_in sends))) fine ∙ ap (paid_by after r.waits (sends_in sends)) pays in
-      let same : left - c ≡ left - r.cost = ap (λ n. left - n) (sym price) in
       subst (Does texts r left) (sym does ∙ refl)
-      (subst (λ n. Does texts r left (goes_on after r.waits (sends_in sends) n)) (sym same)
+      (subst (λ n. Does texts r left (goes_on after r.waits (sends_in sends) (record left { messages = left.messages - n }))) same
       (record { pays = rich; state = λ l. rw (sym state) refl; sends = sym list; waits = refl }))
 
 -- the lookup of an entry is the one that it answers
@@ -106,9 +99,9 @@ ready_more texts kinds book all o are new i e r at here =
     push_cases all o i (Some r) here (are i e r at) (λ j same. new r same e (ap (slice_get book) (sym j) ∙ at))
 
 -- what stands at the place of a lookup is what the book does
-pub deed_ready : (book : List Entry) (all : List (Option Ready)) (l : Lookup) (i ports left : ℕ) (r : Ready) →
+pub deed_ready : (book : List Entry) (all : List (Option Ready)) (l : Lookup) (i ports : ℕ) (left : Allowance) (r : Ready) →
     AreReady (texts_of book) (kinds_of book) book all → position (asks (texts_of book) l) book ≡ Some i → slice_get all i ≡ Some (Some r) →
-    r.ports ≤ ports → r.cost ≤ left → Does (texts_of book) r left (deed_of book ports left l)
+    r.ports ≤ ports → price left r ≤ left.messages → Does (texts_of book) r left (deed_of book ports left l)
 deed_ready book all l i ports left r are p here wide rich =
     let it = there_is (asks (texts_of book) l) book i p in
     subst (λ o. Does (texts_of book) r left (deed_by (kinds_of book) ports left l o)) (sym (answer_is (texts_of book) book l i it.0 p it.1))
@@ -151,10 +144,10 @@ next_ready texts kinds book old new o i many are grown is =
     )
 
 -- by the fields of a book made ready
-pub deed_at : (inside now : List Entry) (said : List Text) (greeted : Text) (all : List (Option Ready)) (l : Lookup) (i ports left : ℕ)
-    (r : Ready) → said ≡ texts_of inside → greeted ≡ kinds_of inside → inside ≡ now → AreReady said greeted inside all →
-    position (asks said l) inside ≡ Some i → slice_get all i ≡ Some (Some r) → r.ports ≤ ports → r.cost ≤ left →
-    Does (texts_of now) r left (deed_of now ports left l)
+pub deed_at : (inside now : List Entry) (said : List Text) (greeted : Text) (all : List (Option Ready)) (l : Lookup) (i ports : ℕ)
+    (left : Allowance) (r : Ready) → said ≡ texts_of inside → greeted ≡ kinds_of inside → inside ≡ now → AreReady said greeted inside all →
+    position (asks said l) inside ≡ Some i → slice_get all i ≡ Some (Some r) → r.ports ≤ ports →
+    price left r ≤ left.messages → Does (texts_of now) r left (deed_of now ports left l)
 deed_at inside now said greeted all l i ports left r texts kinds same are p here wide rich =
     subst (λ b. Does (texts_of b) r left (deed_of b ports left l)) same
     (deed_ready inside all l i ports left r (subst (λ k. AreReady (texts_of inside) k inside all) kinds

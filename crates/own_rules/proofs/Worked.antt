@@ -1,11 +1,12 @@
 -- Worked examples of a book's words, and of what a page is told, computed from the definitions.
-use Rattle.std.specs.Prelude.{◌≡◌, false, true, List, [], ◌∷◌, codes, refl, None}
+use Rattle.std.specs.Prelude.{◌≡◌, ℕ, false, true, List, [], ◌∷◌, codes, refl, Some, None}
 use Rattle.own_book.specs.Entry.{Entry, entry}
-use Rattle.own_rules.specs.Deed.{goes_on, stops}
+use Rattle.own_rules.specs.Deed.{cost, goes_on, left_then, stops}
 use Rattle.own_rules.specs.Looks.{kind_look, letter_of, look_of, title_of, titled}
 use Rattle.own_rules.specs.Words.{kind_name, mark_in, says_text, variables_in, verdict_word, variables_at, word_said}
 use Rattle.own_rules.specs.declared.node.Reason.TheVariants.{Unanswered}
 use Rattle.own_rules.specs.declared.node.State.TheVariants.{Stopped}
+use Rattle.own_rules.specs.declared.protocol.TheConstants.{EXPLORING, RUNNING}
 use Rattle.peer_words.specs.Json.{member, quoted}
 
 -- a book of the echo wave, of which only the greeting matters here
@@ -53,14 +54,22 @@ the_first_marks = refl
 
 -- rows
 
-one_waits : verdict_word (goes_on (codes "a=1") true [] 5) ≡ codes "waits"
+one_waits : verdict_word (goes_on (codes "a=1") true [] RUNNING) ≡ codes "waits"
 one_waits = refl
 
-one_goes_on : verdict_word (goes_on (codes "a=1") false [] 5) ≡ codes "goes_on"
+one_goes_on : verdict_word (goes_on (codes "a=1") false [] RUNNING) ≡ codes "goes_on"
 one_goes_on = refl
 
 one_stops : verdict_word (stops Unanswered) ≡ codes "stopped"
 one_stops = refl
+
+-- allowances
+
+running_deferred : left_then RUNNING (cost {M = ℕ} RUNNING true (1 ∷ 2 ∷ [])) ≡ Some (record { messages = 1048573; deferrals = true })
+running_deferred = refl
+
+exploring_deferred : left_then EXPLORING (cost {M = ℕ} EXPLORING true (1 ∷ 2 ∷ [])) ≡ Some (record { messages = 5459; deferrals = false })
+exploring_deferred = refl
 
 -- what a page is told
 

@@ -1,5 +1,5 @@
 -- The rules of a book keep what a protocol promises. (What an impl has to prove of its members has to stand in specs/; no clause cites it.)
-use Rattle.std.proofs.Common.{◌≡◌, ◌≢◌, ℕ, suc, ◌+◌, ◌-◌, ◌*◌, ◌<◌, ◌≤◌, ◌^◌, Bool, true, false, cond, nat_le, nat_lt, Option, Some, None, IsSome, List, [], ◌∷◌, length, refl, sym, ◌∙◌, ap, subst, ⊎_elim, arith, leb-true, ltb-true}
+use Rattle.std.proofs.Common.{◌≡◌, ◌≢◌, ◌&&◌, ℕ, suc, ◌+◌, ◌-◌, ◌*◌, ◌<◌, ◌≤◌, ◌^◌, Bool, true, false, cond, nat_le, nat_lt, Option, Some, None, IsSome, List, [], ◌∷◌, length, refl, sym, ◌∙◌, ap, subst, ⊎_elim, arith, leb-true, ltb-true}
 use Rattle.std.specs.Prelude.{unwrap_or}
 use Rattle.std.specs.List.{position_or_len}
 use Rattle.std.specs.Str.{bytes_eq}
@@ -34,6 +34,7 @@ use Rattle.own_book.specs.Asking.{open_text}
 use Rattle.own_rules.specs.Questions.{answer_at, asked_for}
 use Rattle.own_rules.specs.Rules.{deferred, lookup_at, message_in, next, numbered, opened, opened_by, reacted, rules_of, sends_by, sent, sleeps, state_by, waits_by}
 use Rattle.own_rules.specs.Texts.{Text, kinds_of, names_of, text_at, texts_of}
+use Rattle.own_rules.specs.declared.node.Allowance.{Allowance}
 use Rattle.own_rules.specs.declared.node.Lookup.{Lookup}
 use Rattle.own_rules.specs.declared.node.Message.{Message}
 use Rattle.own_rules.specs.declared.node.Node.{Node}
@@ -41,6 +42,7 @@ use Rattle.own_rules.specs.declared.node.Reason.{Reason}
 use Rattle.own_rules.specs.declared.node.Reason.TheVariants.{Unanswered, Fails, Spent}
 use Rattle.own_rules.specs.declared.node.State.{State}
 use Rattle.own_rules.specs.declared.node.State.TheVariants.{Runs, Stopped}
+use Rattle.own_rules.specs.declared.protocol.TheConstants.{RUNNING}
 
 -- kinds
 
@@ -48,45 +50,63 @@ among : (n count : ℕ) (b : Bool) → nat_lt n count ≡ b → unwrap_or (cond 
 among n count true e = let lt = ltb-true n count e in omega (arith, lt)
 among n count false e = omega arith
 
-pub told_kinds : (book : List Entry) (most : ℕ) → HasKinds (rules_of book most)
+pub told_kinds : (book : List Entry) (most : Allowance) → HasKinds (rules_of book most)
 told_kinds book most m =
     let names = names_of (kinds_of book) in
     let text = text_at (texts_of book) m.text in
     among (position_or_len (bytes_eq (kind_in text (cut_at 40 text))) names) (length names) _ refl
 
--- what a node may still send and defer
+-- what a node may still send
 
 abbrev pub left_of : State → ℕ
-left_of (Runs text asleep left) = left
+left_of (Runs text asleep left) = left.messages
 left_of (Stopped s) = 0
 
 abbrev pub budget : Node → ℕ
 budget n = left_of n.state
 
-module _ (book : List Entry) (most : ℕ) where
-  opened_said : (o : Option Saying) → left_of (opened_by book most o) ≤ most
+-- whether deferrals count for it; one that has stopped defers nothing
+abbrev pub counts : State → Bool
+counts (Runs text asleep left) = left.deferrals
+counts (Stopped s) = true
+
+module _ (book : List Entry) (most : Allowance) where
+  opened_said : (o : Option Saying) → left_of (opened_by book most o) ≤ most.messages
   opened_said None = omega arith
   opened_said (Some (greets name kinds)) = omega arith
   opened_said (Some (opens state)) = omega arith
   opened_said (Some (reacts state waits sends)) = omega arith
   opened_said (Some (gives_up why)) = omega arith
 
-  opened_left : (o : Option (ℕ × Text)) → left_of (opened book most o) ≤ most
+  opened_left : (o : Option (ℕ × Text)) → left_of (opened book most o) ≤ most.messages
   opened_left None = omega arith
   opened_left (Some told) = opened_said (saying asked.Opening told.1)
 
--- A deed of a node that may still send and defer so many messages costs no more, leaves it awake, and sends at its ports.
-module _ (book : List Entry) (most : ℕ) (ports left : ℕ) where
+  -- where deferrals count, they count for each node that opens
+  counts_said : most.deferrals ≡ true → (o : Option Saying) → counts (opened_by book most o) ≡ true
+  counts_said count None = refl
+  counts_said count (Some (greets name kinds)) = refl
+  counts_said count (Some (opens state)) = count
+  counts_said count (Some (reacts state waits sends)) = refl
+  counts_said count (Some (gives_up why)) = refl
+
+  pub opened_counts : most.deferrals ≡ true → (o : Option (ℕ × Text)) → counts (opened book most o) ≡ true
+  opened_counts count None = refl
+  opened_counts count (Some told) = counts_said count (saying asked.Opening told.1)
+
+-- A deed of a node with this allowance costs no more, leaves it awake, and sends at its ports. Where deferrals count, they count on.
+module _ (book : List Entry) (most : Allowance) (ports : ℕ) (left : Allowance) where
   abbrev OnPorts : Outgoing Message → Type 0
   OnPorts ss = (g : Network) (v : ℕ) → ports ≡ length (g.ports v) → are_on_ports (rules_of book most) g v ss ≡ true
 
   record IsDeed (l : Lookup) (d : Deed) : Type 0 where
-    pub pays : length (sends_by (texts_of book) d) + cond (waits_by d) 1 0 + left_of (state_by (texts_of book) l d) ≤ left
+    pub pays : cost left (waits_by d) (sends_by (texts_of book) d) + left_of (state_by (texts_of book) l d) ≤ left.messages
+    pub count : left.deferrals ≡ true → counts (state_by (texts_of book) l d) ≡ true
     pub awake : sleeps book (state_by (texts_of book) l d) ≡ false
     pub fits : OnPorts (sends_by (texts_of book) d)
 
   stops_is : (l : Lookup) (why : Reason) → IsDeed l (stops why)
-  stops_is l why = record { pays = omega arith; awake = refl; fits = λ g v e. refl }
+  stops_is l why = record { pays = omega arith; count = λ h. refl; awake = refl; fits = λ g v e. refl }
 
   -- no send without a fault is at a port that isn't there
   send_by : (kinds : Text) (s : Sending) (more : List Sending) (b c : Bool) → nat_lt s.0 ports ≡ b → names_kind kinds s.1 ≡ c →
@@ -110,21 +130,21 @@ module _ (book : List Entry) (most : ℕ) (ports left : ℕ) where
   unfaulty kinds after sends true e h = let no : Some StillAsleep ≡ None = sym (cond-true (says_asleep after) _ _ e) ∙ h in cc
   unfaulty kinds after sends false e h = sym (cond-false (says_asleep after) _ _ e) ∙ h
 
-  paid_is : (l : Lookup) (after : Text) (waits : Bool) (sends : List Sending) (b : Bool) → nat_le (cost waits sends) left ≡ b →
-      OnPorts (numbered (texts_of book) sends) → IsDeed l (paid left after waits sends)
+  paid_is : (l : Lookup) (after : Text) (waits : Bool) (sends : List Sending) (b : Bool) →
+      nat_le (cost left waits sends) left.messages ≡ b → OnPorts (numbered (texts_of book) sends) → IsDeed l (paid left after waits sends)
   paid_is l after waits sends false e fits =
-      subst (λ o. IsDeed l (paid_by after waits sends o)) (sym (cond-false (nat_le (cost waits sends) left) _ _ e)) (stops_is l Spent)
+      subst (λ o. IsDeed l (paid_by after waits sends o)) (sym (cond-false (nat_le (cost left waits sends) left.messages) _ _ e)) (stops_is l Spent)
   paid_is l after waits sends true e fits =
-      let few = leb-true (cost waits sends) left e in
+      let few = leb-true (cost left waits sends) left.messages e in
       let same = length-map sends (message_in (texts_of book)) in
-      subst (λ o. IsDeed l (paid_by after waits sends o)) (sym (cond-true (nat_le (cost waits sends) left) _ _ e))
-      (record { pays = omega (arith, few, same); awake = refl; fits = fits })
+      subst (λ o. IsDeed l (paid_by after waits sends o)) (sym (cond-true (nat_le (cost left waits sends) left.messages) _ _ e))
+      (record { pays = omega (arith, few, same); count = λ h. h; awake = refl; fits = fits })
 
   faulty_is : (kinds : Text) (l : Lookup) (after : Text) (waits : Bool) (sends : List Sending) (f : Option AnswerFault) →
       reaction_fault kinds ports after sends ≡ f → IsDeed l (unless_faulty f (paid left after waits sends))
   faulty_is kinds l after waits sends (Some fault) e = stops_is l (Fails fault)
   faulty_is kinds l after waits sends None e =
-      paid_is l after waits sends (nat_le (cost waits sends) left) refl
+      paid_is l after waits sends (nat_le (cost left waits sends) left.messages) refl
       (sends_on kinds sends (unfaulty kinds after sends (says_asleep after) refl e))
 
   said_is : (kinds : Text) (l : Lookup) (o : Option Saying) → IsDeed l (deed_said kinds ports left o)
@@ -142,34 +162,50 @@ module _ (book : List Entry) (most : ℕ) (ports left : ℕ) where
   deed_is : (l : Lookup) → IsDeed l (deed_of book ports left l)
   deed_is l = answer_is (kinds_of book) l (answer_at (texts_of book) book l)
 
-module _ (book : List Entry) (most : ℕ) where
+module _ (book : List Entry) (most : Allowance) where
   -- a reaction of a node in any state pays, leaves it awake, and sends at its ports
-  next_pays : (v ports : ℕ) (k : Work Message) (s : State) →
+  next_pays : (v ports : ℕ) (k : Work Message) (s : State) → length (sent book v ports k s) + left_of (next book v ports k s) ≤ left_of s
+  next_pays v ports k (Runs text asleep left) = let d = (deed_is book most ports left (lookup_at v text k)).pays in omega (arith, d)
+  next_pays v ports k (Stopped s) = omega arith
+
+  and_one : (b : Bool) → ◌≡◌ {A = ℕ} (cond (b && true) 1 0) (cond b 1 0)
+  and_one true = refl
+  and_one false = refl
+
+  -- where deferrals count, it pays for one, and they count on
+  pub next_defers : (v ports : ℕ) (k : Work Message) (s : State) → counts s ≡ true →
       length (sent book v ports k s) + cond (deferred book v ports k s) 1 0 + left_of (next book v ports k s) ≤ left_of s
-  next_pays v ports work.Wake (Runs text asleep left) =
-      let d = (deed_is book most ports left (lookup_at v text work.Wake)).pays in omega (arith, d)
-  next_pays v ports (work.Deliver p m) (Runs text asleep left) = (deed_is book most ports left (lookup_at v text (work.Deliver p m))).pays
-  next_pays v ports work.Wake (Stopped s) = omega arith
-  next_pays v ports (work.Deliver p m) (Stopped s) = omega arith
+  next_defers v ports work.Wake s count = let paid = next_pays v ports work.Wake s in omega (arith, paid)
+  next_defers v ports (work.Deliver p m) (Runs text asleep left) count =
+      let l = lookup_at v text (work.Deliver p m) in
+      let waits = waits_by (deed_of book ports left l) in
+      let paid = (deed_is book most ports left l).pays in
+      let one = ap (λ b. cond (waits && b) 1 0) count ∙ and_one waits in
+      omega (arith, paid, one)
+  next_defers v ports (work.Deliver p m) (Stopped s) count = omega arith
+
+  pub next_counts : (v ports : ℕ) (k : Work Message) (s : State) → counts s ≡ true → counts (next book v ports k s) ≡ true
+  next_counts v ports k (Runs text asleep left) count = (deed_is book most ports left (lookup_at v text k)).count count
+  next_counts v ports k (Stopped s) count = refl
 
   next_awake : (v ports : ℕ) (k : Work Message) (s : State) → sleeps book (next book v ports k s) ≡ false
   next_awake v ports k (Runs text asleep left) = (deed_is book most ports left (lookup_at v text k)).awake
   next_awake v ports k (Stopped s) = refl
 
-  sent_fits : (v ports : ℕ) (k : Work Message) (s : State) → OnPorts book most ports 0 (sent book v ports k s)
+  sent_fits : (v ports : ℕ) (k : Work Message) (s : State) → OnPorts book most ports most (sent book v ports k s)
   sent_fits v ports k (Runs text asleep left) = (deed_is book most ports left (lookup_at v text k)).fits
   sent_fits v ports k (Stopped s) = λ g v e. refl
 
-  pub told_pays : PaysFrom (rules_of book most) budget most
+  pub told_pays : PaysFrom (rules_of book most) budget most.messages
   told_pays = record {
     opens = λ v ports. opened_left book most (told_in book (open_text v ports));
     pays = λ n k o h. subst
-        (λ (x : Outcome Node Message). length x.sends + cond (deferred book n.number n.ports k n.state) 1 0 + budget x.state ≤ budget n)
+        (λ (x : Outcome Node Message). length x.sends + budget x.state ≤ budget n)
         (same_Some _ _ h) (next_pays n.number n.ports k n.state);
   }
 
-  pub told_bound : IsBoundedBy (rules_of book most) (λ g. g.nodes * most)
-  told_bound = sends_within (rules_of book most) (told_kinds book most) budget most told_pays
+  pub told_bound : IsBoundedBy (rules_of book most) (λ g. g.nodes * most.messages)
+  told_bound = sends_within (rules_of book most) (told_kinds book most) budget most.messages told_pays
 
   -- each node has its ports in every net of a run
   abbrev HasPorts : Network → Net Node Message → Type 0
@@ -228,14 +264,14 @@ module _ (book : List Entry) (most : ℕ) where
   told_awake g w _ _ is (Took v p m ms o at q e t) =
       awake_by (network_of g) v o (work.Deliver p m) (w.node v) (take_first (rules_of book most) (network_of g) v p m ms w) e
 
-pub told_fits : (most : ℕ) → most < 2 ^ 32 → FitsGraphs (λ g. g.nodes * most)
+pub told_fits : (most : Allowance) → most.messages < 2 ^ 32 → FitsGraphs (λ g. g.nodes * most.messages)
 told_fits most few g ok =
     let nodes = ok.nodes in
-    let much = mul-le g.nodes most 1048576 4294967295 (omega (arith, nodes)) (omega (arith, few)) in
+    let much = mul-le g.nodes most.messages 1048576 4294967295 (omega (arith, nodes)) (omega (arith, few)) in
     omega (arith, much)
 
 pub none_are_few : 0 < 2 ^ 32
 none_are_few = omega arith
 
-pub runs_are_few : 1048576 < 2 ^ 32
+pub runs_are_few : RUNNING.messages < 2 ^ 32
 runs_are_few = omega arith

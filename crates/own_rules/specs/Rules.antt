@@ -14,6 +14,7 @@ use Rattle.own_rules.specs.Bits.{bits_of}
 use Rattle.own_rules.specs.Deed.{Deed, deed_of, goes_on, stops}
 use Rattle.own_book.specs.Asking.{open_text}
 use Rattle.own_rules.specs.Texts.{Text, kind_among, kinds_many, kinds_of, number_in, text_at, texts_of}
+use Rattle.own_rules.specs.declared.node.Allowance.{Allowance}
 use Rattle.own_rules.specs.declared.node.Lookup.{Lookup}
 use Rattle.own_rules.specs.declared.node.Lookup.TheVariants as lookup
 use Rattle.own_rules.specs.declared.node.Message.{Message}
@@ -56,16 +57,16 @@ waits_by (stops reason) = false
 
 module _ (book : List Entry) where
   -- by the answer to its opening a node runs, or stops at once
-  abbrev pub opened_by : ℕ → Option Saying → State
+  abbrev pub opened_by : Allowance → Option Saying → State
   opened_by most (Some (opens state)) = Runs (number_in (texts_of book) state) (says_asleep state) most
   opened_by most (Some (gives_up why)) = stopped None (Fails faults.GivesUp)
   opened_by most other = stopped None (Fails faults.Garbled)
 
-  abbrev pub opened : ℕ → Option (ℕ × Text) → State
+  abbrev pub opened : Allowance → Option (ℕ × Text) → State
   opened most None = stopped None Unanswered
   opened most (Some told) = opened_by most (saying asked.Opening told.1)
 
-  abbrev pub opening : ℕ → ℕ → List Port → Node
+  abbrev pub opening : Allowance → ℕ → List Port → Node
   opening most v ports = record { number = v; ports = length ports; state = opened most (told_in book (open_text v ports)) }
 
   abbrev pub sleeps : State → Bool
@@ -94,8 +95,8 @@ module _ (book : List Entry) where
   abbrev pub reacted : Node → Work Message → Outcome Node Message
   reacted n k = record { state = after n (next n.number n.ports k n.state); sends = sent n.number n.ports k n.state }
 
-  -- Each node may send and defer `most` messages. Every work has a reaction: a node to which the book has no answer, or a wrong one, stops.
-  abbrev pub rules_of : ℕ → Rules Node Message
+  -- Each node opens with the allowance `most`. Every work has a reaction: a node to which the book has no answer, or a wrong one, stops.
+  abbrev pub rules_of : Allowance → Rules Node Message
   rules_of most = record {
     opening = λ v ports. opening most v ports;
     is_asleep = λ n. sleeps n.state;

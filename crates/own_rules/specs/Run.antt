@@ -9,6 +9,7 @@ use Rattle.own_rules.specs.Rules.{rules_of}
 use Rattle.own_rules.specs.Stops.{lacking, stops_in}
 use Rattle.own_rules.specs.Texts.{Text}
 use Rattle.own_rules.specs.Words.{kind_name}
+use Rattle.own_rules.specs.declared.node.Allowance.{Allowance}
 use Rattle.own_rules.specs.declared.node.Node.{Node}
 use Rattle.own_rules.specs.declared.run.BookRun.{BookRun}
 use Rattle.peer_machine.specs.Rules.{Rules}
@@ -43,12 +44,12 @@ pub record IsTold {M : Type 0} (r : Rules Node M) (name : ℕ → Text) (bound :
   pub account : ran.account.items ≡ account_lines r name bound g (net_after r g ran.events.items)
   pub wrong : IsChecked book g (net_after r g ran.events.items).node check ran.wrong.items
 
--- by the rules of this book, where each node may send and defer so many messages
-abbrev pub IsRunBy : List Entry → ℕ → ℕ → ℕ → Shape → WakeSet → List Event → Type 0
+-- by the rules of this book, where each node opens with this allowance
+abbrev pub IsRunBy : List Entry → Allowance → ℕ → ℕ → Shape → WakeSet → List Event → Type 0
 IsRunBy book most = IsRunOf (rules_of book most)
 
-abbrev pub StandsBy : List Entry → ℕ → ℕ → Shape → WakeSet → List Event → Bool → Type 0
+abbrev pub StandsBy : List Entry → Allowance → ℕ → Shape → WakeSet → List Event → Bool → Type 0
 StandsBy book most = StandsSo (rules_of book most)
 
-abbrev pub IsToldBy : List Entry → ℕ → Option Check → Shape → BookRun → Type 0
-IsToldBy book most = IsTold (rules_of book most) (kind_name book) (λ g. g.nodes * most) book
+abbrev pub IsToldBy : List Entry → Allowance → Option Check → Shape → BookRun → Type 0
+IsToldBy book most = IsTold (rules_of book most) (kind_name book) (λ g. g.nodes * most.messages) book

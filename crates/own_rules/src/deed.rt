@@ -6,30 +6,30 @@ ghost use Rattle.own_rules.specs.Done.{AreSends, done_by};
 ghost use Rattle.std.specs.Option.{option_map};
 ghost use Rattle.std.specs.Prelude.{IfSome, length, true, ◌≡◌};
 
-use crate::node::Reason;
+use crate::node::{Allowance, Reason};
 use own_book::answer::{Answer, next_sent};
 use own_book::answer_fault::AnswerFault;
 use own_book::sends::sends_fault;
 use own_book::variables::says_asleep;
 
-/// What a node does: it goes on in this state, and may then send and defer so many messages more; or it stops. Its texts are
-/// those of the answer.
+/// What a node does: it goes on in this state, and has then this allowance left; or it stops. Its texts are those of the
+/// answer.
 #[derive(Clone, Copy, Drop)]
 pub(crate) enum Done<'a> {
     GoesOn {
         after: &'a [u8],
         waits: bool,
         sends: &'a [u8],
-        left: u32,
+        left: Allowance,
     },
     Stops(Reason),
 }
 
-/// What a node of so many ports does by an answer, if it may still send and defer so many messages.
+/// What a node of so many ports with this allowance does by an answer.
 pub(crate) fn done_by_answer<'a>(
     kinds: &[u8],
     ports: u32,
-    left: u32,
+    left: Allowance,
     answer: Option<Answer<'a>>,
 ) -> Done<'a>
     requires kinds { are_kinds kinds.now ≡ true }
@@ -71,7 +71,7 @@ pub(crate) fn reaction_fault(
 }
 
 /// A reaction without a fault.
-fn paid<'a>(left: u32, after: &'a [u8], waits: bool, sends: &'a [u8]) -> Done<'a>
+fn paid<'a>(left: Allowance, after: &'a [u8], waits: bool, sends: &'a [u8]) -> Done<'a>
     requires { are_sends sends.now ≡ true }
     ensures done { done_by result ≡ paid_from left after.entry.now waits (sends_in sends.entry.now) }
     ensures sends { AreSends result }
@@ -87,32 +87,36 @@ fn paid<'a>(left: u32, after: &'a [u8], waits: bool, sends: &'a [u8]) -> Done<'a
     }
 }
 
-/// How many messages a node may send and defer once it has sent these, and deferred one or not; none where that were too many.
-pub(crate) fn left_then(left: u32, waits: bool, sends: &[u8]) -> Option<u32>
+/// The allowance of a node once it has sent these, and deferred a message or not; none where that goes beyond it.
+fn left_then(left: Allowance, waits: bool, sends: &[u8]) -> Option<Allowance>
     requires { are_sends sends.now ≡ true }
-    ensures { result ≡ left_then left (cost waits (sends_in sends.now)) }
+    ensures { result ≡ left_then left (cost left waits (sends_in sends.now)) }
 {
-    if !waits {
+    if !(waits && left.deferrals) {
         return left_behind(left, sends);
     }
-    if left == 0 {
+    if left.messages == 0 {
         return None;
     }
-    left_behind(left - 1, sends)
+    let less = Allowance {
+        messages: left.messages - 1,
+        ..left
+    };
+    left_behind(less, sends)
 }
 
 /// The same once it has sent these.
-fn left_behind(most: u32, sends: &[u8]) -> Option<u32>
+fn left_behind(most: Allowance, sends: &[u8]) -> Option<Allowance>
     requires { are_sends sends.now ≡ true }
     ensures { result ≡ left_then most (length (sends_in sends.now)) }
 {
     let mut left = most;
     let mut rest = sends;
     'sends: while let Some((_, after)) = next_sent(rest) {
-        if left == 0 {
+        if left.messages == 0 {
             return None;
         }
-        left -= 1;
+        left.messages -= 1;
         rest = after;
     }
     Some(left)

@@ -7,6 +7,14 @@ pub struct Message {
     pub text: usize,
 }
 
+/// What a node may still do: send so many messages; and where deferrals count, one that it defers is one of them.
+#[derive(Clone, Copy, Debug, PartialEq, Eq)]
+pub struct Allowance {
+    pub messages: u32,
+    /// Whether deferrals count.
+    pub deferrals: bool,
+}
+
 /// What a node is asked at an event; texts stand as their numbers in the book.
 #[derive(Clone, Copy, Debug, PartialEq, Eq, Hash)]
 pub enum Lookup {
@@ -31,7 +39,7 @@ pub enum Reason {
     Unanswered,
     /// The answer is none that a node may give.
     Fails(AnswerFault),
-    /// By the answer it would have sent and deferred more messages than a node may.
+    /// By the answer it would have gone beyond its allowance.
     Spent,
 }
 
@@ -45,11 +53,11 @@ pub struct Stop {
 /// How far a node has come. It is also how a node changes in one reaction.
 #[derive(Clone, Copy, Debug, PartialEq, Eq)]
 pub enum State {
-    /// It is in the state with this number, sleeps or not, and may still send and defer so many messages.
+    /// It is in the state with this number, sleeps or not, and has this allowance left.
     Runs {
         text: usize,
         asleep: bool,
-        left: u32,
+        left: Allowance,
     },
     /// It has stopped, and does nothing any more.
     Stopped(Stop),

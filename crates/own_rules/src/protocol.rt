@@ -7,7 +7,7 @@ ghost use Rattle.own_rules.specs.declared.node.State.TheVariants.{Runs};
 ghost use Rattle.std.specs.Prelude.{IfOk, false, ◌≡◌};
 
 use crate::deed::Done;
-use crate::node::{Lookup, Message, Node, State, Stop};
+use crate::node::{Allowance, Lookup, Message, Node, State, Stop};
 use crate::rulebook::Rulebook;
 use ghs_graph::graph::Graph;
 use ghs_graph::port::Port;
@@ -16,41 +16,49 @@ use peer_machine::work::{Answer, Work};
 use std::alloc::{AllocError, Global};
 use std::marker::{Brand, PhantomData};
 
-/// How many messages a node may send and defer in a run.
-pub const RUN_MESSAGES: u32 = 1_048_576;
+/// What a node may do in a run: send and defer so many messages.
+pub const RUNNING: Allowance = Allowance {
+    messages: 1_048_576,
+    deferrals: true,
+};
 
-/// How many in a network all of whose runs are explored: so that 12 nodes send 65,532 at most.
-pub const EXPLORE_MESSAGES: u32 = 5_461;
+/// What it may do in a network all of whose runs are explored: send so many, so that 12 nodes send 65,532 at most. Deferrals
+/// cost nothing.
+pub const EXPLORING: Allowance = Allowance {
+    messages: 5_461,
+    deferrals: false,
+};
 
-/// By which book a run goes, and how many messages each of its nodes may send and defer. Only the running program knows.
+/// By which book a run goes, and with which allowance each of its nodes opens. Only the running program knows.
 pub trait Chosen {
     ghost use Rattle.own_book.specs.Entry.{Entry};
-    ghost use Rattle.std.specs.Prelude.{ℕ, ◌<◌, ◌^◌, List};
+    ghost use Rattle.own_rules.specs.declared.node.Allowance.{Allowance};
+    ghost use Rattle.std.specs.Prelude.{◌<◌, ◌^◌, List};
 
     ghost book: { List Entry };
 
-    ghost most: { ℕ };
+    ghost most: { Allowance };
 
-    ghost few: { most < 2 ^ 32 };
+    ghost few: { most.messages < 2 ^ 32 };
 }
 
 /// A call that names `Brand` picks. By itself it stands for a book that says nothing.
 impl Chosen for Brand {
     ghost use Rattle.own_rules.specs.Proved.{none_are_few};
-    ghost use Rattle.std.specs.Prelude.{[]};
+    ghost use Rattle.std.specs.Prelude.{[], true};
 
     ghost book = { [] };
 
-    ghost most = { 0 };
+    ghost most = { record { messages = 0; deferrals = true } };
 
     ghost few = { none_are_few };
 }
 
-/// A book to run, and how many messages each node may send and defer.
+/// A book to run, and the allowance with which each node opens.
 #[derive(Clone, Copy)]
 pub struct Playing<'a> {
     pub rules: &'a Rulebook,
-    pub most: u32,
+    pub most: Allowance,
 }
 
 /// A node does what a book answers. No value of this type is made.
@@ -78,7 +86,7 @@ impl<'a, J: Chosen> Protocol for Told<'a, J> {
 
     ghost after = { changed };
 
-    ghost bound = { λ g. g.nodes * J.most };
+    ghost bound = { λ g. g.nodes * J.most.messages };
 
     fn open(alloc: Global, set: Playing<'a>, v: u32, ports: &[Port]) -> Result<Node, AllocError> {
         Ok(Node {
@@ -167,7 +175,7 @@ impl<'a, J: Chosen> Protocol for Told<'a, J> {
     }
 
     fn bound_of(set: Playing<'a>, graph: &Graph) -> u64 {
-        u64::from(graph.nodes()) * u64::from(set.most)
+        u64::from(graph.nodes()) * u64::from(set.most.messages)
     }
 
     ghost has_kinds = { told_kinds J.book J.most };
@@ -194,8 +202,8 @@ pub(crate) fn lookup_at(node: u32, state: usize, work: Work<Message>) -> Lookup
     }
 }
 
-/// Whether a node of so many ports defers the message, if it may still send and defer so many.
-fn waits(rules: &Rulebook, ports: u32, left: u32, lookup: Lookup) -> bool
+/// Whether a node of so many ports with this allowance defers the message.
+fn waits(rules: &Rulebook, ports: u32, left: Allowance, lookup: Lookup) -> bool
     ensures { result ≡ waits_by (deed_of rules.now ports left lookup) }
 {
     match rules.ready(ports, left, lookup) {
@@ -219,20 +227,19 @@ fn waits_so(done: Done) -> bool
     }
 }
 
-/// What a node of so many ports does, if it may still send and defer so many messages: as it is ready, else by the answer's
-/// text. Refusal: out of memory.
+/// What a node of so many ports with this allowance does: as it is ready, else by the answer's text. Refusal: out of memory.
 fn reacted(
     alloc: Global,
     rules: &Rulebook,
     ports: u32,
-    left: u32,
+    left: Allowance,
     lookup: Lookup,
 ) -> Result<Answer<State, Message>, AllocError>
     ensures { IfOk result (λ a. (a.change ≡ state_by (texts_of rules.now) lookup (deed_of rules.now ports left lookup)) × (a.sends.items ≡ sends_by (texts_of rules.now) (deed_of rules.now ports left lookup))) }
 {
     match rules.ready(ports, left, lookup) {
         Some(ready) => Ok(Answer {
-            change: awake(ready.after, left - ready.cost),
+            change: awake(ready.after, ready.paid_from(left)),
             sends: Vec::from_slice(alloc, &ready.sends)?,
         }),
         None => done(alloc, rules, lookup, rules.done(ports, left, lookup)),
@@ -269,8 +276,8 @@ fn done(
     }
 }
 
-/// The state of a node that goes on, by the number of its text; it may then send and defer so many messages.
-fn awake(text: usize, left: u32) -> State
+/// The state of a node that goes on, by the number of its text, with the allowance that it has left.
+fn awake(text: usize, left: Allowance) -> State
     ensures { result ≡ Runs text false left }
 {
     State::Runs {

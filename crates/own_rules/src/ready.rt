@@ -1,26 +1,50 @@
 //! Reactions made ready: what an answer does, by numbers, so that no event reads its text again.
 ghost use Rattle.own_book.specs.Answer.{IsReadable, are_kinds, said_by};
 ghost use Rattle.own_book.specs.Entry.{Entry};
-ghost use Rattle.own_rules.specs.Ready.{AnswersSo, AreReady, IsReady};
+ghost use Rattle.own_rules.specs.Ready.{AnswersSo, AreReady, IsReady, price};
 ghost use Rattle.std.specs.Option.{option_map};
-ghost use Rattle.std.specs.Prelude.{IfOk, IfSome, Some, slice_get, true, ◌≡◌};
+ghost use Rattle.std.specs.Prelude.{IfOk, IfSome, Some, slice_get, true, ◌-◌, ◌≡◌, ◌≤◌};
 
-use crate::deed::{left_then, reaction_fault};
-use crate::node::Message;
+use crate::deed::reaction_fault;
+use crate::node::{Allowance, Message};
 use crate::places::{asked_for, lookup_at};
 use crate::texts::Texts;
 use own_book::answer::{Answer, read_answer};
 use own_book::book::Book;
 use std::alloc::{AllocError, Global};
 
-/// What a reaction does on each node that has so many ports at least, and may still send and defer so many messages.
+/// What a reaction does on each node that has so many ports at least, and can pay for it.
 #[derive(Drop)]
 pub(crate) struct Ready {
     pub ports: u32,
-    pub cost: u32,
     pub after: usize,
     pub waits: bool,
     pub sends: Vec<(u32, Message)>,
+}
+
+impl Ready {
+    /// What a node with this allowance pays for it.
+    pub(crate) fn price(&self, left: Allowance) -> u64
+        ensures { result ≡ price left self.now }
+    {
+        let sent = self.sends.len() as u64;
+        if self.waits && left.deferrals {
+            sent + 1
+        } else {
+            sent
+        }
+    }
+
+    /// What is left of an allowance that pays for it.
+    pub(crate) fn paid_from(&self, left: Allowance) -> Allowance
+        requires { price left self.now ≤ left.messages }
+        ensures { result ≡ record left { messages = left.messages - price left self.now } }
+    {
+        Allowance {
+            messages: left.messages - self.price(left) as u32,
+            ..left
+        }
+    }
 }
 
 /// What each answer of a book does, where it is ready. Refusal: out of memory.
@@ -87,12 +111,8 @@ fn ready_by(
     if reaction_fault(kinds, ports, state, sends).is_some() {
         return Ok(None);
     }
-    let Some(left) = left_then(u32::MAX, waits, sends) else {
-        return Ok(None);
-    };
     Ok(Some(Ready {
         ports,
-        cost: u32::MAX - left,
         after: texts.number(state),
         waits,
         sends: numbered,

@@ -17,7 +17,7 @@ ghost use Rattle.std.specs.Prelude.{IfNone, IfOk, IfSome, None, Some, codes, tru
 
 use crate::deed::{Done, done_by_answer};
 use crate::looks::{Looks, looks_of, title_of};
-use crate::node::{Lookup, Message, Reason, State, Stop};
+use crate::node::{Allowance, Lookup, Message, Reason, State, Stop};
 use crate::places::{Places, asked_for, places_of};
 use crate::ready::{Ready, ready_of};
 use crate::texts::{Texts, names_of, texts_of};
@@ -116,8 +116,8 @@ impl Rulebook {
         Some(answer)
     }
 
-    /// What a node of so many ports does by the book, if it may still send and defer so many messages.
-    pub(crate) fn done(&self, ports: u32, left: u32, lookup: Lookup) -> Done<'_>
+    /// What a node of so many ports with this allowance does by the book.
+    pub(crate) fn done(&self, ports: u32, left: Allowance, lookup: Lookup) -> Done<'_>
         ensures done { done_by result ≡ deed_of self.now ports left lookup }
         ensures sends { AreSends result }
     {
@@ -132,13 +132,13 @@ impl Rulebook {
         }
     }
 
-    /// What a node of so many ports does by the book, if it may still send and defer so many messages: where that is ready.
-    pub(crate) fn ready(&self, ports: u32, left: u32, lookup: Lookup) -> Option<&Ready>
+    /// What a node of so many ports with this allowance does by the book, where that is ready.
+    pub(crate) fn ready(&self, ports: u32, left: Allowance, lookup: Lookup) -> Option<&Ready>
         ensures { IfSome result (λ it. Does (texts_of_book self.now) it.now left (deed_of self.now ports left lookup)) }
     {
         let place = self.places.place(lookup)?;
         let it = self.ready.get(place)?.as_ref()?;
-        if it.ports <= ports && it.cost <= left {
+        if it.ports <= ports && it.price(left) <= u64::from(left.messages) {
             Some(it)
         } else {
             None
@@ -164,13 +164,13 @@ impl Rulebook {
         self.texts.numbered(alloc, sends)
     }
 
-    /// How far a node comes by its opening, which may then send and defer `most` messages. Refusal: out of memory.
+    /// How far a node comes by its opening, with the allowance `most`. Refusal: out of memory.
     pub(crate) fn opened(
         &self,
         alloc: Global,
         v: u32,
         ports: &[Port],
-        most: u32,
+        most: Allowance,
     ) -> Result<State, AllocError>
         ensures { IfOk result (λ state. state ≡ opened self.now most (told_in self.now (open_text v ports.now))) }
     {
@@ -183,7 +183,7 @@ impl Rulebook {
     }
 
     /// The same by this answer.
-    fn opened_by(&self, most: u32, answer: &[u8]) -> State
+    fn opened_by(&self, most: Allowance, answer: &[u8]) -> State
         ensures { result ≡ opened_by self.now most (saying Opening answer.now) }
     {
         match read_answer(Asked::Opening, answer) {

@@ -1,5 +1,5 @@
 //! Runs by a book.
-ghost use Rattle.own_rules.specs.declared.protocol.TheConstants.{RUN_MESSAGES};
+ghost use Rattle.own_rules.specs.declared.protocol.TheConstants.{RUNNING};
 ghost use Rattle.own_rules.specs.Run.{IsRunBy, IsRunOf, IsTold, IsToldBy, StandsBy, StandsSo};
 ghost use Rattle.peer_machine.specs.Run.{IsRunUnder};
 ghost use Rattle.peer_net.specs.NetState.{net_of, network};
@@ -10,7 +10,7 @@ ghost use Rattle.std.specs.Prelude.{IfOk, [], ◌≡◌};
 use crate::check::check_text;
 use crate::faults::faults_text;
 use crate::node::{Node, Stop};
-use crate::protocol::{Chosen, Playing, RUN_MESSAGES, Told};
+use crate::protocol::{Chosen, Playing, RUNNING, Told};
 use crate::rulebook::Rulebook;
 use crate::stops::{lacking_text, stops_of};
 use ghs_choices::check::Check;
@@ -48,7 +48,7 @@ pub struct BookRun {
 }
 
 /// The run by a book that a seed picks, to its end or to its last turn, and what is told of it and of its end by a check. Each node
-/// sends and defers `RUN_MESSAGES` messages at most. Refusal: out of memory.
+/// sends and defers at most as many messages as `RUNNING` allows. Refusal: out of memory.
 ///
 /// ```text
 /// let ran = run_book(alloc, &rules, graph, WakeSet::All, 7, 1 << 40, None)?;
@@ -64,9 +64,9 @@ pub fn run_book(
     turns: u64,
     check: Option<Check>,
 ) -> Result<BookRun, AllocError>
-    ensures run { IfOk result (λ ran. IsRunBy rules.now RUN_MESSAGES seed turns graph wake ran.events.items) }
-    ensures stands { IfOk result (λ ran. StandsBy rules.now RUN_MESSAGES turns graph wake ran.events.items ran.at_limit) }
-    ensures told { IfOk result (IsToldBy rules.now RUN_MESSAGES check graph) }
+    ensures run { IfOk result (λ ran. IsRunBy rules.now RUNNING seed turns graph wake ran.events.items) }
+    ensures stands { IfOk result (λ ran. StandsBy rules.now RUNNING turns graph wake ran.events.items ran.at_limit) }
+    ensures told { IfOk result (IsToldBy rules.now RUNNING check graph) }
 {
     run_by::<Brand>(alloc, rules, graph, wake, seed, turns, check)
 }
@@ -82,14 +82,14 @@ fn run_by<'a, J: Chosen>(
     check: Option<Check>,
 ) -> Result<BookRun, AllocError>
     requires book { rules.now ≡ J.book }
-    requires most { RUN_MESSAGES ≡ J.most }
+    requires most { RUNNING ≡ J.most }
     ensures run { IfOk result (λ ran. IsRunBy J.book J.most seed turns graph wake ran.events.items) }
     ensures stands { IfOk result (λ ran. StandsBy J.book J.most turns graph wake ran.events.items ran.at_limit) }
     ensures told { IfOk result (IsToldBy J.book J.most check graph) }
 {
     let playing = Playing {
         rules,
-        most: RUN_MESSAGES,
+        most: RUNNING,
     };
     run_under::<Told<'a, J>>(alloc, playing, rules, graph, wake, seed, turns, check)
 }

@@ -23,13 +23,17 @@ pub fn stops_of<P: Protocol<Node = Node>>(
 {
     let mut stops = Vec::new(alloc);
     for i in 0..net.graph().nodes() {
-        note(&mut stops, i + 1, net.node(i + 1).state)?;
+        note_stop(&mut stops, i + 1, net.node(i + 1).state)?;
     }
     Ok(stops)
 }
 
-/// A node that is as far as this, if it has stopped.
-fn note(stops: &mut Vec<(u32, Stop)>, node: u32, state: State) -> Result<(), AllocError>
+/// Puts a node that is as far as this behind others, if it has stopped. Refusal: out of memory.
+///
+/// ```text
+/// note_stop(&mut stops, 2, State::Stopped(stop))?;          // stops ends with (2, stop); of a node that runs it stays as it is
+/// ```
+pub fn note_stop(stops: &mut Vec<(u32, Stop)>, node: u32, state: State) -> Result<(), AllocError>
     ensures { IfOk result (λ _. stops.new.items ≡ stops.old.items ++ stop_in node state) }
 {
     match state {

@@ -21,6 +21,7 @@ use Rattle.peer_sweep.specs.Columns.{Layout, layout_of}
 use Rattle.peer_sweep.specs.Figures.{AreCounts}
 use Rattle.peer_sweep.specs.Runs.{about_words}
 use Rattle.peer_sweep.specs.declared.figures.Figures.{Figures}
+use Rattle.own_rules.specs.declared.node.Allowance.{Allowance}
 
 module _ {M : Type 0} (r : Rules Node M) where
   -- a run has ended: no event may happen any more, and no node has stopped
@@ -43,9 +44,9 @@ module _ {M : Type 0} (r : Rules Node M) where
     pub faults : x.faults.items ≡ faults book g (stops_in (net_after r g events).node g.nodes)
     pub wrong : IsChecked book g (net_after r g events).node check x.wrong.items
 
--- by the rules of this book, where each node may send and defer so many messages
-abbrev pub AreFiguresBy : List Entry → ℕ → Option Check → ℕ → ℕ → Shape → WakeSet → BookFigures → Type 0
-AreFiguresBy book most = AreFiguresOf (rules_of book most) (λ g. g.nodes * most) book
+-- by the rules of this book, where each node has this allowance
+abbrev pub AreFiguresBy : List Entry → Allowance → Option Check → ℕ → ℕ → Shape → WakeSet → BookFigures → Type 0
+AreFiguresBy book most = AreFiguresOf (rules_of book most) (λ g. g.nodes * most.messages) book
 
 -- a column for each kind that the greeting names
 abbrev pub layout_by : List Entry → Layout

@@ -2,7 +2,7 @@
 ghost use Rattle.own_rules.specs.Run.{IsTold, IsToldBy};
 ghost use Rattle.own_runs.specs.Again.{IsReplayBy, IsReplayOf, may_go_on};
 ghost use Rattle.own_rules.specs.Rules.{rules_of};
-ghost use Rattle.own_rules.specs.declared.protocol.TheConstants.{RUN_MESSAGES};
+ghost use Rattle.own_rules.specs.declared.protocol.TheConstants.{RUNNING};
 ghost use Rattle.peer_machine.specs.Run.{IsRunUnder};
 ghost use Rattle.peer_net.specs.NetState.{network};
 ghost use Rattle.peer_network.specs.Network.{network_of};
@@ -15,7 +15,7 @@ ghost use Rattle.std.specs.Prelude.{IfErr, IfOk, ◌≡◌};
 use ghs_choices::check::Check;
 use ghs_graph::graph::Graph;
 use own_rules::node::Node;
-use own_rules::protocol::{Chosen, Playing, RUN_MESSAGES, Told};
+use own_rules::protocol::{Chosen, Playing, RUNNING, Told};
 use own_rules::rulebook::Rulebook;
 use own_rules::run::{BookRun, ran};
 use peer_machine::protocol::Protocol;
@@ -30,7 +30,7 @@ use std::marker::Brand;
 
 /// The run of stored events by a book, played again, and what is told of it and of its end by a check; `at_limit` says whether an
 /// event may still happen.
-/// Each node sends and defers `RUN_MESSAGES` messages at most. Refusals: the first event that isn't lawful where it stands,
+/// Each node sends and defers as many messages as `RUNNING` allows. Refusals: the first event that isn't lawful where it stands,
 /// counted from 1; out of memory, before or behind it.
 ///
 /// ```text
@@ -46,10 +46,10 @@ pub fn replay_book(
     events: &[Event],
     check: Option<Check>,
 ) -> Result<BookRun, ReplayFault>
-    ensures run { IfOk result (IsReplayBy rules.now RUN_MESSAGES graph wake events.now) }
-    ensures told { IfOk result (IsToldBy rules.now RUN_MESSAGES check graph) }
-    ensures fault { IfErr result (CantReplay (rules_of rules.now RUN_MESSAGES) graph wake events.now) }
-    ensures lawful { IsRunUnder (rules_of rules.now RUN_MESSAGES) (may_wake graph wake) (network_of graph) events.now → IfErr result (λ fault. fault ≡ Memory) }
+    ensures run { IfOk result (IsReplayBy rules.now RUNNING graph wake events.now) }
+    ensures told { IfOk result (IsToldBy rules.now RUNNING check graph) }
+    ensures fault { IfErr result (CantReplay (rules_of rules.now RUNNING) graph wake events.now) }
+    ensures lawful { IsRunUnder (rules_of rules.now RUNNING) (may_wake graph wake) (network_of graph) events.now → IfErr result (λ fault. fault ≡ Memory) }
 {
     replay_by::<Brand>(alloc, rules, graph, wake, events, check)
 }
@@ -64,7 +64,7 @@ fn replay_by<'a, J: Chosen>(
     check: Option<Check>,
 ) -> Result<BookRun, ReplayFault>
     requires book { rules.now ≡ J.book }
-    requires most { RUN_MESSAGES ≡ J.most }
+    requires most { RUNNING ≡ J.most }
     ensures run { IfOk result (IsReplayBy J.book J.most graph wake events.now) }
     ensures told { IfOk result (IsToldBy J.book J.most check graph) }
     ensures fault { IfErr result (CantReplay (rules_of J.book J.most) graph wake events.now) }
@@ -72,7 +72,7 @@ fn replay_by<'a, J: Chosen>(
 {
     let playing = Playing {
         rules,
-        most: RUN_MESSAGES,
+        most: RUNNING,
     };
     replay_under::<Told<'a, J>>(alloc, playing, rules, graph, wake, events, check)
 }

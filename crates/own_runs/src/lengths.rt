@@ -1,13 +1,13 @@
 //! How long a run by a book is.
 ghost use Rattle.own_rules.specs.Rules.{rules_of};
-ghost use Rattle.own_rules.specs.declared.protocol.TheConstants.{RUN_MESSAGES};
+ghost use Rattle.own_rules.specs.declared.protocol.TheConstants.{RUNNING};
 ghost use Rattle.peer_lengths.specs.Lengths.{AreLengths};
 ghost use Rattle.peer_machine.specs.Run.{IsRun};
 ghost use Rattle.peer_network.specs.Network.{network_of};
 ghost use Rattle.std.specs.Prelude.{IfOk, ◌≡◌};
 
 use ghs_graph::graph::Graph;
-use own_rules::protocol::{Chosen, Playing, RUN_MESSAGES, Told};
+use own_rules::protocol::{Chosen, Playing, RUNNING, Told};
 use own_rules::rulebook::Rulebook;
 use peer_lengths::lengths::{Lengths, lengths_of};
 use peer_network::event::Event;
@@ -28,8 +28,8 @@ pub fn time_by_book(
     graph: &Graph,
     events: &[Event],
 ) -> Result<Lengths, AllocError>
-    requires run { IsRun (rules_of rules.now RUN_MESSAGES) (network_of graph.now) events.now }
-    ensures { IfOk result (AreLengths (rules_of rules.now RUN_MESSAGES) graph.now events.now) }
+    requires run { IsRun (rules_of rules.now RUNNING) (network_of graph.now) events.now }
+    ensures { IfOk result (AreLengths (rules_of rules.now RUNNING) graph.now events.now) }
 {
     time_by::<Brand>(alloc, rules, graph, events)
 }
@@ -42,13 +42,13 @@ fn time_by<'a, J: Chosen>(
     events: &[Event],
 ) -> Result<Lengths, AllocError>
     requires book { rules.now ≡ J.book }
-    requires most { RUN_MESSAGES ≡ J.most }
+    requires most { RUNNING ≡ J.most }
     requires run { IsRun (rules_of J.book J.most) (network_of graph.now) events.now }
     ensures { IfOk result (AreLengths (rules_of J.book J.most) graph.now events.now) }
 {
     let playing = Playing {
         rules,
-        most: RUN_MESSAGES,
+        most: RUNNING,
     };
     lengths_of::<Told<'a, J>>(alloc, playing, graph, events)
 }

@@ -8,8 +8,8 @@
 //! chain, its bits and its longest message (`AreLengths`). `figures_by_book` has the figures of the run that a seed picks, which
 //! has ended where no event may happen any more and no node has stopped (`AreFiguresBy`), and `table_by_book` the columns of
 //! their lines (`layout_by`), or it says that there are more than eight kinds of messages. `explore_book` tells of all runs of a small
-//! network what the book lacks, a run in which nodes have stopped, one whose end a check finds wrong, or with which counts they end
-//! (`IsExploredBy`).
+//! network what the book lacks, a run in which nodes have stopped, one that can't be brought to an end, one whose end a check finds
+//! wrong, or with which counts they end (`IsExploredBy`).
 //!
 //! Not claimed: that two books with one sum are the same; that is SHA-256's promise. Worked examples: `own_examples`. Next:
 //! `own_rules`, which has the rules, and `peer_trace`, which has the text.

@@ -1,7 +1,7 @@
 //! The steps of a stored run by a book.
 ghost use Rattle.own_rules.specs.Rules.{rules_of};
 ghost use Rattle.own_rules.specs.Words.{words_of};
-ghost use Rattle.own_rules.specs.declared.protocol.TheConstants.{RUN_MESSAGES};
+ghost use Rattle.own_rules.specs.declared.protocol.TheConstants.{RUNNING};
 ghost use Rattle.peer_machine.specs.Run.{IsRunUnder};
 ghost use Rattle.peer_network.specs.Network.{network_of};
 ghost use Rattle.peer_network.specs.Wakes.{may_wake};
@@ -14,7 +14,7 @@ use ghs_choices::choice::Choice;
 use ghs_choices::form::Form;
 use ghs_gr::device::Sink;
 use ghs_graph::graph::Graph;
-use own_rules::protocol::{Chosen, Playing, RUN_MESSAGES, Told};
+use own_rules::protocol::{Chosen, Playing, RUNNING, Told};
 use own_rules::rulebook::Rulebook;
 use peer_network::event::Event;
 use peer_network::wake_set::WakeSet;
@@ -42,9 +42,9 @@ pub fn write_steps_book<W: Sink>(
     writer: &mut W,
 ) -> Result<(), StepsFault>
     requires sound { W.has_failed writer.old ≡ false }
-    ensures run { OnOk result (IsRunUnder (rules_of rules.now RUN_MESSAGES) (may_wake graph wake) (network_of graph) events.now) }
-    ensures ok { OnOk result (Appends (W.held writer.old) (W.held writer.new) (lines (rules_of rules.now RUN_MESSAGES) (words_of rules.now) form graph choice.now events.now)) }
-    ensures err { IfErr result (λ fault. CantShow (rules_of rules.now RUN_MESSAGES) graph wake events.now (lines (rules_of rules.now RUN_MESSAGES) (words_of rules.now) form graph choice.now events.now) (W.held writer.old) (W.held writer.new) fault) }
+    ensures run { OnOk result (IsRunUnder (rules_of rules.now RUNNING) (may_wake graph wake) (network_of graph) events.now) }
+    ensures ok { OnOk result (Appends (W.held writer.old) (W.held writer.new) (lines (rules_of rules.now RUNNING) (words_of rules.now) form graph choice.now events.now)) }
+    ensures err { IfErr result (λ fault. CantShow (rules_of rules.now RUNNING) graph wake events.now (lines (rules_of rules.now RUNNING) (words_of rules.now) form graph choice.now events.now) (W.held writer.old) (W.held writer.new) fault) }
     ensures unlawful { IfErr result (λ fault. is_unlawful fault ≡ true → writer.new ≡ writer.old) }
     ensures failed { MatchResult result (λ _. W.has_failed writer.new ≡ false) (λ fault. W.has_failed writer.new ≡ is_write fault) }
 {
@@ -63,7 +63,7 @@ fn steps_by<'a, J: Chosen, W: Sink>(
     writer: &mut W,
 ) -> Result<(), StepsFault>
     requires book { rules.now ≡ J.book }
-    requires most { RUN_MESSAGES ≡ J.most }
+    requires most { RUNNING ≡ J.most }
     requires sound { W.has_failed writer.old ≡ false }
     ensures run { OnOk result (IsRunUnder (rules_of J.book J.most) (may_wake graph wake) (network_of graph) events.now) }
     ensures ok { OnOk result (Appends (W.held writer.old) (W.held writer.new) (lines (rules_of J.book J.most) (words_of J.book) form graph choice.now events.now)) }
@@ -73,7 +73,7 @@ fn steps_by<'a, J: Chosen, W: Sink>(
 {
     let playing = Playing {
         rules,
-        most: RUN_MESSAGES,
+        most: RUNNING,
     };
     write_steps::<Told<'a, J>, W>(alloc, playing, graph, wake, events, choice, form, writer)
 }

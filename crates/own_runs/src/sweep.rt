@@ -4,7 +4,7 @@ ghost use Rattle.own_rules.specs.Faults.{faults};
 ghost use Rattle.own_rules.specs.Rules.{rules_of};
 ghost use Rattle.own_rules.specs.Stops.{lacking, stops_in};
 ghost use Rattle.own_rules.specs.Texts.{kinds_many, kinds_of, names_of};
-ghost use Rattle.own_rules.specs.declared.protocol.TheConstants.{RUN_MESSAGES};
+ghost use Rattle.own_rules.specs.declared.protocol.TheConstants.{RUNNING};
 ghost use Rattle.own_runs.specs.Sweep.{AreFigures, AreFiguresBy, AreFiguresOf, layout_by};
 ghost use Rattle.peer_lengths.specs.Lengths.{AreLengths};
 ghost use Rattle.peer_net.specs.NetState.{net_of};
@@ -16,7 +16,7 @@ use ghs_graph::graph::Graph;
 use own_rules::check::check_text;
 use own_rules::faults::faults_text;
 use own_rules::node::{Node, Stop};
-use own_rules::protocol::{Chosen, Playing, RUN_MESSAGES, Told};
+use own_rules::protocol::{Chosen, Playing, RUNNING, Told};
 use own_rules::rulebook::Rulebook;
 use own_rules::run::run_world;
 use own_rules::stops::{lacking_text, stops_of};
@@ -57,8 +57,8 @@ pub enum TableFault {
     TooManyKinds,
 }
 
-/// The figures of the run by a book that a seed picks, to its end or to its last turn. Each node sends and defers `RUN_MESSAGES`
-/// messages at most. Messages behind the eighth kind are counted with all others alone. Refusal: out of memory.
+/// The figures of the run by a book that a seed picks, to its end or to its last turn. Each node sends and defers as many messages
+/// as `RUNNING` allows. Messages behind the eighth kind are counted with all others alone. Refusal: out of memory.
 ///
 /// ```text
 /// let seventh = figures_by_book(alloc, &rules, &graph, WakeSet::All, 7, 1 << 40, None)?;
@@ -73,7 +73,7 @@ pub fn figures_by_book(
     turns: u64,
     check: Option<Check>,
 ) -> Result<BookFigures, AllocError>
-    ensures { IfOk result (AreFiguresBy rules.now RUN_MESSAGES check seed turns graph.now wake) }
+    ensures { IfOk result (AreFiguresBy rules.now RUNNING check seed turns graph.now wake) }
 {
     figures_by::<Brand>(alloc, rules, graph, wake, seed, turns, check)
 }
@@ -89,12 +89,12 @@ fn figures_by<'a, J: Chosen>(
     check: Option<Check>,
 ) -> Result<BookFigures, AllocError>
     requires book { rules.now ≡ J.book }
-    requires most { RUN_MESSAGES ≡ J.most }
+    requires most { RUNNING ≡ J.most }
     ensures { IfOk result (AreFiguresBy J.book J.most check seed turns graph.now wake) }
 {
     let playing = Playing {
         rules,
-        most: RUN_MESSAGES,
+        most: RUNNING,
     };
     figures_under::<Told<'a, J>>(alloc, playing, rules, graph, wake, seed, turns, check)
 }

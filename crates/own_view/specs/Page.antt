@@ -13,6 +13,7 @@ use Rattle.peer_page.specs.Page.{page_text, pair_text}
 use Rattle.peer_view.specs.RunPage.{run_json}
 use Rattle.peer_words.specs.Looks.{Looks}
 use Rattle.peer_words.specs.Words.{Words}
+use Rattle.own_rules.specs.declared.node.Allowance.{Allowance}
 
 -- A book may say any printable byte. On a page `<` and `&` stand as HTML writes them, so that nothing that a book says is read as HTML.
 abbrev pub shield : ℕ → List ℕ
@@ -38,9 +39,9 @@ module _ {S M : Type 0} (r : Rules S M) (words : Words S M) (looks : Looks) (bou
   abbrev pub IsOwnPair : Shape → List Event → List Event → ℕ → ℕ → List ℕ → Type 0
   IsOwnPair g first second from to text = text ≡ pair_text (told_json g first from to) (told_json g second from to)
 
--- by the rules of this book, where each node may send and defer so many messages
-abbrev pub IsPageBy : List Entry → ℕ → Shape → List Event → ℕ → ℕ → List ℕ → Type 0
-IsPageBy book most = IsOwnPage (rules_of book most) (words_of book) (looks_of book) (λ g. g.nodes * most)
+-- by the rules of this book, where each node has this allowance
+abbrev pub IsPageBy : List Entry → Allowance → Shape → List Event → ℕ → ℕ → List ℕ → Type 0
+IsPageBy book most = IsOwnPage (rules_of book most) (words_of book) (looks_of book) (λ g. g.nodes * most.messages)
 
-abbrev pub IsPairBy : List Entry → ℕ → Shape → List Event → List Event → ℕ → ℕ → List ℕ → Type 0
-IsPairBy book most = IsOwnPair (rules_of book most) (words_of book) (looks_of book) (λ g. g.nodes * most)
+abbrev pub IsPairBy : List Entry → Allowance → Shape → List Event → List Event → ℕ → ℕ → List ℕ → Type 0
+IsPairBy book most = IsOwnPair (rules_of book most) (words_of book) (looks_of book) (λ g. g.nodes * most.messages)

@@ -1,6 +1,6 @@
 //! The page of a run by a book.
 ghost use Rattle.own_rules.specs.Rules.{rules_of};
-ghost use Rattle.own_rules.specs.declared.protocol.TheConstants.{RUN_MESSAGES};
+ghost use Rattle.own_rules.specs.declared.protocol.TheConstants.{RUNNING};
 ghost use Rattle.own_view.specs.Page.{IsOwnPage, IsPageBy};
 ghost use Rattle.peer_machine.specs.Run.{IsRun, IsRunUnder};
 ghost use Rattle.peer_network.specs.Network.{network_of};
@@ -12,7 +12,7 @@ ghost use Rattle.std.specs.Prelude.{IfErr, IfOk, IsErrOf, OnOk, ◌↔◌, ◌�
 
 use crate::told::told_of;
 use ghs_graph::graph::Graph;
-use own_rules::protocol::{Chosen, Playing, RUN_MESSAGES, Told};
+use own_rules::protocol::{Chosen, Playing, RUNNING, Told};
 use own_rules::rulebook::Rulebook;
 use peer_network::event::Event;
 use peer_network::wake_set::WakeSet;
@@ -41,8 +41,8 @@ pub fn run_page_book(
     from: u64,
     to: u64,
 ) -> Result<Vec<u8>, PageFault>
-    requires { IsRun (rules_of rules.now RUN_MESSAGES) (network_of graph) events.now }
-    ensures page { IfOk result (λ text. IsPageBy rules.now RUN_MESSAGES graph events.now from to text.items) }
+    requires { IsRun (rules_of rules.now RUNNING) (network_of graph) events.now }
+    ensures page { IfOk result (λ text. IsPageBy rules.now RUNNING graph events.now from to text.items) }
     ensures large { IsErrOf result TooLarge ↔ IsTooLarge graph events.now to }
 {
     run_page_by::<Brand>(alloc, rules, graph, events, from, to)
@@ -58,14 +58,14 @@ fn run_page_by<'a, J: Chosen>(
     to: u64,
 ) -> Result<Vec<u8>, PageFault>
     requires book { rules.now ≡ J.book }
-    requires most { RUN_MESSAGES ≡ J.most }
+    requires most { RUNNING ≡ J.most }
     requires run { IsRun (rules_of J.book J.most) (network_of graph) events.now }
     ensures page { IfOk result (λ text. IsPageBy J.book J.most graph events.now from to text.items) }
     ensures large { IsErrOf result TooLarge ↔ IsTooLarge graph events.now to }
 {
     let playing = Playing {
         rules,
-        most: RUN_MESSAGES,
+        most: RUNNING,
     };
     run_page_under::<Told<'a, J>>(alloc, playing, graph, events, from, to)
 }
@@ -107,10 +107,10 @@ pub fn stored_page_book(
     from: u64,
     to: u64,
 ) -> Result<Vec<u8>, StoredFault>
-    ensures run { OnOk result (IsRunUnder (rules_of rules.now RUN_MESSAGES) (may_wake graph wake) (network_of graph) events.now) }
-    ensures page { IfOk result (λ text. IsPageBy rules.now RUN_MESSAGES graph events.now from to text.items) }
+    ensures run { OnOk result (IsRunUnder (rules_of rules.now RUNNING) (may_wake graph wake) (network_of graph) events.now) }
+    ensures page { IfOk result (λ text. IsPageBy rules.now RUNNING graph events.now from to text.items) }
     ensures small { OnOk result (IsTooLarge graph events.now to → ⊥) }
-    ensures fault { IfErr result (λ fault. HasNoPage (rules_of rules.now RUN_MESSAGES) graph wake events.now to fault) }
+    ensures fault { IfErr result (λ fault. HasNoPage (rules_of rules.now RUNNING) graph wake events.now to fault) }
 {
     stored_page_by::<Brand>(alloc, rules, graph, wake, events, from, to)
 }
@@ -126,7 +126,7 @@ fn stored_page_by<'a, J: Chosen>(
     to: u64,
 ) -> Result<Vec<u8>, StoredFault>
     requires book { rules.now ≡ J.book }
-    requires most { RUN_MESSAGES ≡ J.most }
+    requires most { RUNNING ≡ J.most }
     ensures run { OnOk result (IsRunUnder (rules_of J.book J.most) (may_wake graph wake) (network_of graph) events.now) }
     ensures page { IfOk result (λ text. IsPageBy J.book J.most graph events.now from to text.items) }
     ensures small { OnOk result (IsTooLarge graph events.now to → ⊥) }
@@ -134,7 +134,7 @@ fn stored_page_by<'a, J: Chosen>(
 {
     let playing = Playing {
         rules,
-        most: RUN_MESSAGES,
+        most: RUNNING,
     };
     stored_page_under::<Told<'a, J>>(alloc, playing, graph, wake, events, from, to)
 }

@@ -1,6 +1,6 @@
 //! The page of two runs by a book.
 ghost use Rattle.own_rules.specs.Rules.{rules_of};
-ghost use Rattle.own_rules.specs.declared.protocol.TheConstants.{RUN_MESSAGES};
+ghost use Rattle.own_rules.specs.declared.protocol.TheConstants.{RUNNING};
 ghost use Rattle.own_view.specs.Page.{IsOwnPair, IsPairBy};
 ghost use Rattle.peer_machine.specs.Run.{IsRun};
 ghost use Rattle.peer_network.specs.Network.{network_of};
@@ -10,7 +10,7 @@ ghost use Rattle.std.specs.Prelude.{IfOk, IsErrOf, ◌↔◌, ◌≡◌};
 
 use crate::told::told_of;
 use ghs_graph::graph::Graph;
-use own_rules::protocol::{Chosen, Playing, RUN_MESSAGES, Told};
+use own_rules::protocol::{Chosen, Playing, RUNNING, Told};
 use own_rules::rulebook::Rulebook;
 use peer_network::event::Event;
 use peer_page::fault::PageFault;
@@ -37,9 +37,9 @@ pub fn pair_page_book(
     from: u64,
     to: u64,
 ) -> Result<Vec<u8>, PageFault>
-    requires first { IsRun (rules_of rules.now RUN_MESSAGES) (network_of graph) first.now }
-    requires second { IsRun (rules_of rules.now RUN_MESSAGES) (network_of graph) second.now }
-    ensures page { IfOk result (λ text. IsPairBy rules.now RUN_MESSAGES graph first.now second.now from to text.items) }
+    requires first { IsRun (rules_of rules.now RUNNING) (network_of graph) first.now }
+    requires second { IsRun (rules_of rules.now RUNNING) (network_of graph) second.now }
+    ensures page { IfOk result (λ text. IsPairBy rules.now RUNNING graph first.now second.now from to text.items) }
     ensures large { IsErrOf result TooLarge ↔ IsPairTooLarge graph first.now second.now to }
 {
     pair_page_by::<Brand>(alloc, rules, graph, first, second, from, to)
@@ -56,7 +56,7 @@ fn pair_page_by<'a, J: Chosen>(
     to: u64,
 ) -> Result<Vec<u8>, PageFault>
     requires book { rules.now ≡ J.book }
-    requires most { RUN_MESSAGES ≡ J.most }
+    requires most { RUNNING ≡ J.most }
     requires first { IsRun (rules_of J.book J.most) (network_of graph) first.now }
     requires second { IsRun (rules_of J.book J.most) (network_of graph) second.now }
     ensures page { IfOk result (λ text. IsPairBy J.book J.most graph first.now second.now from to text.items) }
@@ -64,7 +64,7 @@ fn pair_page_by<'a, J: Chosen>(
 {
     let playing = Playing {
         rules,
-        most: RUN_MESSAGES,
+        most: RUNNING,
     };
     pair_page_under::<Told<'a, J>>(alloc, playing, graph, first, second, from, to)
 }

@@ -45,8 +45,8 @@ pub fn law_ends<S, M>()
     ensures { (r : Rules S M) → EventsAreFew r }
 {}
 
-/// Where each node opens with a budget, and each message that it sends or defers costs one of it, no run sends more messages
-/// than the budgets together; where besides each event leaves its node awake, each run comes to an end.
+/// Where each node opens with a budget, and each message that it sends costs one of it, no run sends more messages than the
+/// budgets together; where each that it defers costs one too, and each event leaves its node awake, each run comes to an end.
 pub fn law_budget<S, M>()
     ensures sends { (r : Rules S M) → SendsWithin r }
     ensures ends { (r : Rules S M) → EndsWithin r }

@@ -6,7 +6,7 @@ use Rattle.own_rules.proofs.deed.left_behind.Given as goal
 abbrev pub invariant-sends : goal.invariant-sends
 invariant-sends l = record {
   readable : are_sends l.rest ≡ true;
-  left : left_then l.most (length (sends_in l.sends)) ≡ left_then l.left (length (sends_in l.rest));
+  left : left_then l.fn.most (length (sends_in l.sends)) ≡ left_then l.left (length (sends_in l.rest));
 }
 
 abbrev pub decreases-sends : goal.decreases-sends

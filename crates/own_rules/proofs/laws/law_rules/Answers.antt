@@ -1,6 +1,5 @@
-use Rattle.peer_machine.proofs.lemmas.Budget.{ends_within}
-use Rattle.own_rules.specs.Proved.{budget, told_awake, told_bound, told_kinds, told_pays, told_rules}
-use Rattle.own_rules.specs.Rules.{rules_of}
+use Rattle.own_rules.specs.Proved.{told_awake, told_bound, told_kinds, told_rules}
+use Rattle.own_rules.proofs.Ending.{runs_are_short}
 use Rattle.own_rules.proofs.laws.law_rules.Goals as goal
 
 pub returns : goal.returns
@@ -9,6 +8,5 @@ returns c = λ book most. record {
   rules = told_rules book most;
   bounded = told_bound book most;
   awake = told_awake book most;
-  short = λ g ok es is.
-      ends_within (rules_of book most) (told_kinds book most) (told_awake book most) budget most (told_pays book most) g ok es is.0 is.1;
+  short = runs_are_short book most;
 }

@@ -1,5 +1,6 @@
 use Rattle.own_rules.specs.Proved.{runs_are_few}
+use Rattle.own_rules.specs.declared.protocol.TheConstants.{RUNNING}
 use Rattle.own_view.proofs.pair.pair_page_book.Given as goal
 
 abbrev pub ghosts-pair_page_by : goal.ghosts-pair_page_by
-ghosts-pair_page_by a = record { book = a.rules.now; most = 1048576; few = runs_are_few }
+ghosts-pair_page_by a = record { book = a.rules.now; most = RUNNING; few = runs_are_few }
