@@ -7,7 +7,7 @@ _ghs() {
         return
     fi
     case ${COMP_WORDS[1]},$before in
-        run,--protocol) COMPREPLY=($(compgen -W 'ghs boruvka echo own' -- "$word")) && return ;;
+        run,--protocol) COMPREPLY=($(compgen -W 'ghs boruvka echo gather own' -- "$word")) && return ;;
         run,--book) : && return ;;
         run,--check) : && return ;;
         run,--seed) : && return ;;
@@ -16,11 +16,11 @@ _ghs() {
         run,--wake) COMPREPLY=($(compgen -W 'all first' -- "$word")) && return ;;
         run,--turns) : && return ;;
         run,--print) COMPREPLY=($(compgen -W 'report trace time' -- "$word")) && return ;;
-        replay,--protocol) COMPREPLY=($(compgen -W 'ghs boruvka echo own' -- "$word")) && return ;;
+        replay,--protocol) COMPREPLY=($(compgen -W 'ghs boruvka echo gather own' -- "$word")) && return ;;
         replay,--book) : && return ;;
         replay,--check) : && return ;;
         replay,--wake) COMPREPLY=($(compgen -W 'all first' -- "$word")) && return ;;
-        steps,--protocol) COMPREPLY=($(compgen -W 'ghs boruvka echo own' -- "$word")) && return ;;
+        steps,--protocol) COMPREPLY=($(compgen -W 'ghs boruvka echo gather own' -- "$word")) && return ;;
         steps,--book) : && return ;;
         steps,--wake) COMPREPLY=($(compgen -W 'all first' -- "$word")) && return ;;
         steps,--from) : && return ;;
@@ -28,7 +28,7 @@ _ghs() {
         steps,--node) : && return ;;
         judge,--book) : && return ;;
         judge,--wake) COMPREPLY=($(compgen -W 'all first' -- "$word")) && return ;;
-        sweep,--protocol) COMPREPLY=($(compgen -W 'ghs boruvka echo own' -- "$word")) && return ;;
+        sweep,--protocol) COMPREPLY=($(compgen -W 'ghs boruvka echo gather own' -- "$word")) && return ;;
         sweep,--book) : && return ;;
         sweep,--check) : && return ;;
         sweep,--seeds) : && return ;;
@@ -38,7 +38,7 @@ _ghs() {
         sweep,--turns) : && return ;;
         sweep,--print) COMPREPLY=($(compgen -W 'runs summary chart' -- "$word")) && return ;;
         sweep,--by) COMPREPLY=($(compgen -W 'node level rule' -- "$word")) && return ;;
-        view,--protocol) COMPREPLY=($(compgen -W 'ghs boruvka echo own' -- "$word")) && return ;;
+        view,--protocol) COMPREPLY=($(compgen -W 'ghs boruvka echo gather own' -- "$word")) && return ;;
         view,--book) : && return ;;
         view,--seed) : && return ;;
         view,--seeds) : && return ;;
@@ -51,7 +51,7 @@ _ghs() {
         make,--seed) : && return ;;
         make,--links) : && return ;;
         make,--weights) COMPREPLY=($(compgen -W 'random rising falling equal' -- "$word")) && return ;;
-        explore,--protocol) COMPREPLY=($(compgen -W 'ghs boruvka echo own' -- "$word")) && return ;;
+        explore,--protocol) COMPREPLY=($(compgen -W 'ghs boruvka echo gather own' -- "$word")) && return ;;
         explore,--book) : && return ;;
         explore,--check) : && return ;;
         explore,--wake) COMPREPLY=($(compgen -W 'all first' -- "$word")) && return ;;

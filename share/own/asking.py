@@ -134,6 +134,12 @@ class Book:
                 return short
         return self.fill(*words)
 
+    def orders(self, graph, wake, *options):
+        """The status of all runs of a small network by the book, and what it prints."""
+        # (a node without an answer stops, which makes states of its own: so the questions of some runs come first)
+        self.fill("sweep", graph, "--protocol", "own", "--seeds", "1..50", "--wake", wake, "--turns", "10000")
+        return self.run("explore", graph, "--wake", wake, *options)
+
     def fill(self, *words):
         """Asks what this command finds open until it finds nothing; its status, and what it prints."""
         while True:
