@@ -1,10 +1,10 @@
 #!/usr/bin/env python3
 """The steps of a stored run, played by a program that shares nothing with `ghs`: what its texts are compared with.
 
-    page/independent.py GRAPH TRACE [--protocol ghs|boruvka|echo] [--json | --page | --html] [--from A] [--to B] [--node V]
+    page/independent.py GRAPH TRACE [--protocol ghs|boruvka|echo|gather] [--json | --page | --html] [--from A] [--to B] [--node V]
 
-It plays the events of a trace by the node's procedures as docs/PROTOCOL.md states them, or by the rules of Borůvka in step or of
-the echo wave as docs/class/COMPARE.md does, and writes what each of them changed: its steps as text or as JSON Lines, the data of its page, or
+It plays the events of a trace by the node's procedures as docs/PROTOCOL.md states them, or by the rules of Borůvka in step, of the
+echo wave or of Gather as docs/class/COMPARE.md does, and writes what each of them changed: its steps as text or as JSON Lines, the data of its page, or
 the page (docs/FORMATS.md). Parallel links, loops and graphs in pieces are taken.
 """
 import argparse
@@ -15,11 +15,12 @@ from collections import deque
 
 HERE = os.path.dirname(os.path.abspath(__file__))
 BASIC, BRANCH, REJECTED = 'basic', 'branch', 'rejected'
-ASKED, INSIDE, PARENT = 'asked', 'inside', 'parent'
+ASKED, INSIDE, PARENT, CHILD = 'asked', 'inside', 'parent', 'child'
 KINDS = ['connect', 'initiate', 'test', 'accept', 'reject', 'report', 'changeroot']
 INF = (1 << 64, 0, 0)
-# what a message has behind its kind; an Initiate has a phase in GHS alone
-PARTS = {'connect': ('level',), 'initiate': ('level', 'key', 'phase'), 'test': ('level', 'key'), 'name': ('level', 'key'), 'report': ('key',)}
+# what a message has behind its kind; an Initiate has a phase in GHS alone, and an Explore a wave in Gather alone
+PARTS = {'connect': ('level',), 'initiate': ('level', 'key', 'phase'), 'test': ('level', 'key'), 'name': ('level', 'key'), 'report': ('key',),
+         'explore': ('wave',), 'back': ('wave', 'links'), 'tree': ('links',)}
 
 
 def read_gr(text):
@@ -60,11 +61,19 @@ def lengths(n, keys):
     """How many bits a message has in a network, as docs/class/COMPARE.md says: a function of the message."""
     def needs(greatest):
         return max(1, greatest.bit_length())
-    widths = {'level': needs(n.bit_length() - 1), 'key': 2 * needs(n) + needs(max((weight for weight, _, _ in keys), default=0)), 'phase': 1}
+    key = 2 * needs(n) + needs(max((weight for weight, _, _ in keys), default=0))
+    widths = {'level': needs(n.bit_length() - 1), 'key': key, 'phase': 1, 'wave': needs(n)}
+
+    def of_kind(m):
+        # the Explore of the echo wave carries nothing
+        return 1 if m in (('explore',), ('echo',)) else 2 if m[0] in ('explore', 'back', 'tree') else 3
+
+    def of_part(part, x):
+        return needs(len(keys)) + key * len(x) if part == 'links' else widths[part]
 
     def length(m):
         parts = zip(PARTS.get(m[0], ()), m[1:])
-        return (1 if m[0] in ('explore', 'echo') else 3) + (m[0] == 'report') + sum(widths[part] for part, x in parts if x is not None)
+        return of_kind(m) + (m[0] == 'report') + sum(of_part(part, x) for part, x in parts if x is not None)
     return length
 
 
@@ -447,15 +456,108 @@ class WaveNet(Played):
         return 'Hears', False, sends
 
 
-NETS = {net.PROTOCOL: net for net in (Net, StepNet, WaveNet)}
+class GatherNode(Node):
+    """What a node of Gather knows; `brought` are the links that each child has sent."""
+    name = None
+
+    def __init__(self, degree):
+        self.marks, self.brought = [BASIC] * degree, [None] * degree
+        self.phase, self.wave, self.parent, self.awaits, self.halted = 'sleeping', 0, None, 0, False
+
+    VARS = ('phase', 'wave', 'parent', 'awaits', 'halted')
+
+
+class GatherNet(Played):
+    """A network whose leader gathers the links."""
+    PROTOCOL, KINDS, NODE = 'gather', ['explore', 'back', 'tree'], GatherNode
+    MARKS, PHASES = (BASIC, CHILD, BRANCH), ('sleeping', 'asking', 'answered')
+    ROWS = ('Wakes', 'Joins', 'Leaves', 'Hears', 'Gathers', 'Ignores', 'Told')
+
+    @staticmethod
+    def most(n, links, k):
+        return 2 * links * n + n - 1
+
+    def own(self, v):
+        return [key for key, _, _ in self.ports[v]]
+
+    def joins(self, v, wave, parent, sends):
+        s = self.nodes[v]
+        s.phase, s.wave, s.parent, s.awaits = 'asking', wave, parent, 0
+        for p, mark in enumerate(s.marks):
+            s.brought[p] = None
+            s.marks[p] = BASIC if mark == CHILD else mark
+            if p != parent:
+                s.awaits += 1
+                sends.append((p, ('explore', wave)))
+        self.close(v, sends)
+
+    def close(self, v, sends):
+        s = self.nodes[v]
+        if s.awaits:
+            return
+        s.phase = 'answered'
+        known = self.forest(self.own(v) + [key for links in s.brought if links for key in links])
+        if s.parent is None:
+            self.told(v, known, sends)
+        else:
+            sends.append((s.parent, ('back', s.wave, known)))
+
+    def forest(self, keys):
+        least, kept = list(range(self.n + 1)), []
+        for key in sorted(set(keys)):
+            a, b = least[key[1]], least[key[2]]
+            if a != b:
+                kept.append(key)
+                least = [a if part == b else part for part in least]
+        return kept
+
+    def told(self, v, tree, sends):
+        s = self.nodes[v]
+        s.halted = True
+        for p, key in enumerate(self.own(v)):
+            s.marks[p] = BRANCH if key in tree else CHILD if s.brought[p] is not None else BASIC
+            if s.brought[p] is not None:
+                sends.append((p, ('tree', [key for key in tree if key in s.brought[p]])))
+
+    def react(self, v, j, m):
+        """Gives (row, whether the message is put back, sends) and changes the node."""
+        s, sends = self.nodes[v], []
+        if m is None:
+            self.joins(v, v, None, sends)
+            return 'Wakes', False, sends
+        if m[0] == 'tree':
+            self.told(v, m[1], sends)
+            return 'Told', False, sends
+        if m[0] == 'explore' and (not s.wave or m[1] < s.wave):
+            row = 'Leaves' if s.wave else 'Joins'
+            self.joins(v, m[1], j, sends)
+            return row, False, sends
+        if m[1] != s.wave:
+            return 'Ignores', False, sends
+        assert s.awaits > 0, 'unforeseen'
+        s.awaits -= 1
+        if m[0] == 'back':
+            s.brought[j] = m[2]
+            s.marks[j] = CHILD
+        self.close(v, sends)
+        return ('Gathers' if m[0] == 'back' else 'Hears'), False, sends
+
+
+NETS = {net.PROTOCOL: net for net in (Net, StepNet, WaveNet, GatherNet)}
 
 
 # ---- text
 
+def part_text(part, x):
+    if part == 'links':
+        return ','.join(map(key_text, x))
+    return key_text(x) if part == 'key' else str(x)
+
+
 def message_text(m):
     if m is None:
         return 'wake'
-    parts = [key_text(x) if part == 'key' else str(x) for part, x in zip(PARTS.get(m[0], ()), m[1:])]
+    parts = [part_text(part, x) for part, x in zip(PARTS.get(m[0], ()), m[1:])]
     return m[0] + ('(' + ','.join(parts) + ')' if parts else '')
 
 
@@ -482,7 +584,13 @@ def text_line(s):
 
 def message_json(m):
     parts = zip(PARTS.get(m[0], ()), m[1:])
-    return {'kind': m[0], **{part: key_text(x) if part == 'key' and x is not None else x for part, x in parts}}
+    return {'kind': m[0], **{part: part_json(part, x) for part, x in parts}}
+
+
+def part_json(part, x):
+    if part == 'links':
+        return [key_text(key) for key in x]
+    return key_text(x) if part == 'key' and x is not None else x
 
 
 def value_json(x, y):
@@ -529,7 +637,7 @@ def protocol_line(net):
         ('kinds', list(has) == net.KINDS and all(has[k] == PARTS.get(k, ())[:len(has[k])] for k in has)),
         ('the phase of an Initiate', ('phase' in has.get('initiate', ())) == (net.PROTOCOL == 'ghs')),
         ('letters', len({kind['letter'] for kind in told['kinds']}) == len(has)),
-        ('bits', all(kind['bits'] == (1 if net.PROTOCOL == 'echo' else 3 + ('phase' in kind['has']) + (kind['kind'] == 'report'))
+        ('bits', all(kind['bits'] == ({'echo': 1, 'gather': 2}.get(net.PROTOCOL) or 3 + ('phase' in kind['has']) + (kind['kind'] == 'report'))
                      for kind in told['kinds'])),
         ('marks', tuple(mark['mark'] for mark in told['marks']) == net.MARKS),
         ('phases', tuple(phase['phase'] for phase in told['phases']) == net.PHASES),

@@ -21,14 +21,14 @@ impl Measured for Boruvka {
         Widths::of(graph)
     }
 
-    fn bits(scale: Widths, message: Message) -> u32 {
+    fn bits(scale: Widths, message: &Message) -> u32 {
         length(scale, message)
     }
 }
 
 /// How many bits a message has: three for its kind, and those of the level and the key that it has.
-fn length(widths: Widths, message: Message) -> u32
-    ensures { result ≡ length_of widths message }
+fn length(widths: Widths, message: &Message) -> u32
+    ensures { result ≡ length_of widths message.now }
 {
     let level = widths.level as u32;
     let key = 2 * widths.number as u32 + widths.weight as u32;

@@ -4,6 +4,7 @@ ghost use Rattle.boruvka_node.specs.Boruvka.{boruvka};
 
 use ghs_graph::key::Key;
 use ghs_node::level::Level;
+use peer_machine::again::Again;
 
 /// A node's phase: not yet woken, in search of the fragment's least outgoing link, or at rest.
 #[derive(Clone, Copy, Debug, PartialEq, Eq)]
@@ -28,12 +29,18 @@ pub enum Message {
     ChangeRoot,
 }
 
+impl Again for Message {
+    fn again(&self) -> Message {
+        *self
+    }
+}
+
 /// How many kinds of messages there are.
 pub const KINDS: usize = 5;
 
 /// The kind of a message, from 0 on.
-pub fn kind(message: Message) -> usize
-    ensures { result ≡ boruvka.kind_of message }
+pub fn kind(message: &Message) -> usize
+    ensures { result ≡ boruvka.kind_of message.now }
 {
     match message {
         Message::Connect(_) => 0,

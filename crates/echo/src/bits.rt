@@ -12,7 +12,7 @@ impl Measured for Echo {
 
     fn scale_of(_setting: (), _graph: &Graph) {}
 
-    fn bits(_scale: (), _message: Message) -> u32 {
+    fn bits(_scale: (), _message: &Message) -> u32 {
         1
     }
 }

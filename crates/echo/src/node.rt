@@ -1,4 +1,5 @@
 //! A node of the echo wave, what it is told, and how it changes.
+use peer_machine::again::Again;
 
 /// A message: the wave goes on, or has come back.
 #[derive(Clone, Copy, Debug, PartialEq, Eq)]
@@ -33,4 +34,10 @@ pub enum Change {
 pub struct Node {
     pub ports: u32,
     pub head: Head,
+}
+
+impl Again for Message {
+    fn again(&self) -> Message {
+        *self
+    }
 }

@@ -77,8 +77,8 @@ impl Protocol for Echo {
         }
     }
 
-    fn defers(_setting: (), _node: &Node, _work: Work<Message>) -> bool
-        ensures { result ≡ echo.defers _node.now _work }
+    fn defers(_setting: (), _node: &Node, _work: &Work<Message>) -> bool
+        ensures { result ≡ echo.defers _node.now _work.now }
     {
         false
     }
@@ -100,7 +100,7 @@ impl Protocol for Echo {
         2
     }
 
-    fn kind(_setting: (), message: Message) -> usize {
+    fn kind(_setting: (), message: &Message) -> usize {
         match message {
             Message::Explore => 0,
             Message::Echo => 1,

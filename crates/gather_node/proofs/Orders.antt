@@ -11,7 +11,7 @@ use Rattle.std.proofs.lemmas.List.Sorted.{Contains-permutation, IsPermutation-sy
 use Rattle.ghs_graph.specs.declared.key.Key.{Key}
 use Rattle.ghs_graph.specs.Graph.{NODE_LIMIT}
 use Rattle.ghs_graph.specs.Key.{key_lt, no_key}
-use Rattle.ghs_graph.specs.Links.{AreAmong, IsTree}
+use Rattle.ghs_graph.specs.Links.{AreAmong, IsRising, IsTree}
 use Rattle.ghs_graph.proofs.lemmas.Keys.{lt_irreflexive}
 use Rattle.peer_network.proofs.lemmas.Graphs.{same_key}
 use Rattle.gather_node.specs.Forest.{follows, forest, is_link}
@@ -48,6 +48,23 @@ order_starts ks = record {
   same = λ k. (λ h. absurd (let l = h.1 in omega (arith, l)), λ h. absurd (let l = h.0.1 in omega (arith, l)));
 }
 
+-- a key that comes after all of a list in key order
+pub rises_on : (keys : List Key) (k : Key) → IsRising keys → follows keys k ≡ true → IsRising (keys ++ k ∷ [])
+rises_on keys k r h = all_pairs_push (λ x y. key_lt x y ≡ true) keys k r (last (length keys == 0) refl h)
+  where
+    last : (b : Bool) → (length keys == 0) ≡ b → (b || key_lt (get_or keys (length keys - 1) no_key) k) ≡ true →
+        (j : ℕ) (d : Key) → j < length keys → key_lt (get_or keys j d) k ≡ true
+    last true z t j d l = absurd (let n = eqb-true (length keys) 0 z in omega (arith, n, l))
+    last false z t j d l = ⊎_elim
+        (λ (h : j ≡ length keys - 1).
+        subst (λ (y : Key). key_lt y k ≡ true)
+        (get_or_default keys (length keys - 1) no_key d (omega (arith, l)) ∙ ap (λ n. get_or keys n d) (sym h)) t)
+        (λ ne.
+        lt_through (get_or keys j d) (get_or keys (length keys - 1) d) k
+        (r j (length keys - 1) d (omega (arith, ne, l)) (omega (arith, l)))
+        (subst (λ (y : Key). key_lt y k ≡ true) (get_or_default keys (length keys - 1) no_key d (omega (arith, l))) t))
+        (cases_eq j (length keys - 1))
+
 -- a link that comes after those before it
 pub order_more : (ks keys keys' : List Key) (i : ℕ) (k : Key) → NoneFalls ks → i < length ks → get_or ks i k ≡ k → AreInOrder (take i ks) keys →
     (is_link k && follows keys k) ≡ true → keys' ≡ keys ++ k ∷ [] → AreInOrder (take (i + 1) ks) keys'
@@ -58,22 +75,9 @@ order_more ks keys keys' i k s lt e o b q =
     parts : (is_link k ≡ true) × (follows keys k ≡ true)
     parts = and_parts _ _ b
 
-    last : (b : Bool) → (length keys == 0) ≡ b → (b || key_lt (get_or keys (length keys - 1) no_key) k) ≡ true →
-        (j : ℕ) (d : Key) → j < length keys → key_lt (get_or keys j d) k ≡ true
-    last true z t j d l = absurd (let n = eqb-true (length keys) 0 z in omega (arith, n, l))
-    last false z t j d l = ⊎_elim
-        (λ (h : j ≡ length keys - 1).
-        subst (λ (y : Key). key_lt y k ≡ true)
-        (get_or_default keys (length keys - 1) no_key d (omega (arith, l)) ∙ ap (λ n. get_or keys n d) (sym h)) t)
-        (λ ne.
-        lt_through (get_or keys j d) (get_or keys (length keys - 1) d) k
-        (o.rising j (length keys - 1) d (omega (arith, ne, l)) (omega (arith, l)))
-        (subst (λ (y : Key). key_lt y k ≡ true) (get_or_default keys (length keys - 1) no_key d (omega (arith, l))) t))
-        (cases_eq j (length keys - 1))
-
     made : AreInOrder (take i ks ++ k ∷ []) (keys ++ k ∷ [])
     made = record {
-      rising = all_pairs_push (λ x y. key_lt x y ≡ true) keys k o.rising (last (length keys == 0) refl parts.1);
+      rising = rises_on keys k o.rising parts.1;
       same = λ x. (
         λ h. ⊎_elim
             (λ old. let w = (o.same x).0 old in (Contains-append_left (take i ks) (k ∷ []) x w.0, w.1))

@@ -6,9 +6,9 @@ ghost use Rattle.gather_node.specs.State.{after, degree, marks, nothing_brought,
 ghost use Rattle.gather_node.specs.Gather.{gather};
 
 use crate::change::Change;
-use crate::forest::has;
+use crate::forest::{has_by, is_rising};
 use crate::head::Head;
-use crate::links::Links;
+use crate::links::{Links, same};
 use ghs_graph::key::Key;
 use ghs_graph::port::Port;
 use std::alloc::{AllocError, Global};
@@ -17,15 +17,15 @@ use std::marker::Model;
 /// A node of the network: its number, the keys of its ports, its own variables, the links that came with an answer at each
 /// port, and which ports are Branch.
 #[derive(Debug, Drop)]
-pub struct Node {
+pub struct Node<'s> {
     number: u32,
     keys: Vec<Key>,
     head: Head,
-    brought: Vec<Option<Links>>,
+    brought: Vec<Option<Links<'s>>>,
     branches: Vec<bool>,
 }
 
-impl Model for Node {
+impl<'s> Model for Node<'s> {
     ghost use Rattle.gather_node.specs.State.{State};
     ghost use Rattle.gather_node.specs.Held.{IsHeld};
 
@@ -36,14 +36,14 @@ impl Model for Node {
     ghost invariant = { λ n. IsHeld n.keys.items n.brought.items n.branches.items };
 }
 
-impl Node {
+impl<'s> Node<'s> {
     /// The opening node of this number with these ports: asleep, none of them Branch.
     ///
     /// ```text
     /// let node = Node::open(alloc, 2, graph.ports(2))?;
     /// // is_asleep(&node), and no port is a Branch
     /// ```
-    pub fn open(alloc: Global, number: u32, ports: &[Port]) -> Result<Node, AllocError>
+    pub fn open(alloc: Global, number: u32, ports: &[Port]) -> Result<Node<'s>, AllocError>
         requires few { length ports.now < 2 ^ 24 }
         ensures { IfOk result (λ n. n ≡ gather.opening number ports.now) }
     {
@@ -54,6 +54,24 @@ impl Node {
             number,
             keys,
             head: Head::UNTOUCHED,
+            brought,
+            branches,
+        })
+    }
+
+    /// The same node once more. Refusal: out of memory.
+    pub fn copy(&self, alloc: Global) -> Result<Node<'s>, AllocError>
+        ensures { IfOk result (λ n. n ≡ self.now) }
+    {
+        let mut keys = Vec::new(alloc);
+        keys.extend_from_slice(&self.keys)?;
+        let mut branches = Vec::new(alloc);
+        branches.extend_from_slice(&self.branches)?;
+        let brought = copies(alloc, &self.brought)?;
+        Ok(Node {
+            number: self.number,
+            keys,
+            head: self.head,
             brought,
             branches,
         })
@@ -89,11 +107,18 @@ impl Node {
     }
 
     /// What has come with an answer at each port.
-    pub fn brought(&self) -> &[Option<Links>]
+    pub fn brought(&self) -> &[Option<Links<'s>>]
         ensures brought { result.now ≡ self.now.brought }
         ensures count { length result.now ≡ degree self.now }
     {
         self.brought.as_slice()
+    }
+
+    /// Which ports are Branch.
+    pub fn branches(&self) -> &[bool]
+        ensures { result.now ≡ self.now.branches }
+    {
+        self.branches.as_slice()
     }
 
     /// Whether a port is a Branch.
@@ -104,13 +129,13 @@ impl Node {
     }
 
     /// The node changes. Takes no memory.
-    pub fn apply(&mut self, change: Change)
-        ensures { self.new ≡ after self.old change }
+    pub fn apply(&mut self, change: &Change<'s>)
+        ensures { self.new ≡ after self.old change.now }
     {
         if change.forgets {
             forget(&mut self.brought);
         }
-        put_brought(&mut self.brought, change.brought);
+        put_brought(&mut self.brought, &change.brought);
         if let Some(tree) = &change.tree {
             mark(&mut self.branches, tree.as_slice(), self.keys.as_slice());
         }
@@ -140,7 +165,7 @@ fn keys_of(alloc: Global, ports: &[Port]) -> Result<Vec<Key>, AllocError>
 }
 
 /// No links at any port.
-fn nothing(alloc: Global, count: usize) -> Result<Vec<Option<Links>>, AllocError>
+fn nothing<'s>(alloc: Global, count: usize) -> Result<Vec<Option<Links<'s>>>, AllocError>
     ensures { IfOk result (λ b. b.items ≡ nothing_brought count) }
 {
     let mut brought = Vec::with_capacity(alloc, count)?;
@@ -148,6 +173,20 @@ fn nothing(alloc: Global, count: usize) -> Result<Vec<Option<Links>>, AllocError
         brought.push(None)?;
     }
     Ok(brought)
+}
+
+/// The same links at each port once more.
+fn copies<'s>(
+    alloc: Global,
+    brought: &[Option<Links<'s>>],
+) -> Result<Vec<Option<Links<'s>>>, AllocError>
+    ensures { IfOk result (λ b. b.items ≡ brought.now) }
+{
+    let mut copies = Vec::new(alloc);
+    for links in brought {
+        copies.push(same(links))?;
+    }
+    Ok(copies)
 }
 
 /// No port is a Branch.
@@ -158,7 +197,7 @@ fn no_branches(alloc: Global, count: usize) -> Result<Vec<bool>, AllocError>
 }
 
 /// What has come is forgotten.
-fn forget(brought: &mut Vec<Option<Links>>)
+fn forget<'s>(brought: &mut Vec<Option<Links<'s>>>)
     ensures { brought.new.items ≡ nothing_brought (length brought.old.items) }
 {
     for place in 0..brought.len() {
@@ -167,12 +206,12 @@ fn forget(brought: &mut Vec<Option<Links>>)
 }
 
 /// Links come with an answer.
-fn put_brought(brought: &mut Vec<Option<Links>>, new: Option<(u32, Links)>)
-    ensures { brought.new.items ≡ with_brought new brought.old.items }
+fn put_brought<'s>(brought: &mut Vec<Option<Links<'s>>>, new: &Option<(u32, Links<'s>)>)
+    ensures { brought.new.items ≡ with_brought new.now brought.old.items }
 {
     if let Some((port, links)) = new {
-        if (port as usize) < brought.len() {
-            brought[port as usize] = Some(links);
+        if (*port as usize) < brought.len() {
+            brought[*port as usize] = Some(links.again());
         }
     }
 }
@@ -182,7 +221,8 @@ fn mark(branches: &mut Vec<bool>, tree: &[Key], keys: &[Key])
     requires { length branches.old.items ≡ length keys.now }
     ensures { branches.new.items ≡ marks tree.now keys.now }
 {
+    let rising = is_rising(tree);
     for place in 0..branches.len() {
-        branches[place] = has(tree, &keys[place]);
+        branches[place] = has_by(rising, tree, &keys[place]);
     }
 }

@@ -12,7 +12,7 @@ use Rattle.peer_machine.specs.Rules.{Rules}
 use Rattle.peer_network.specs.declared.event.Event.{Event}
 use Rattle.peer_report.specs.Runs.{TurnsSuffice}
 use Rattle.peer_trace.specs.declared.protocol.Protocol.{Protocol}
-use Rattle.peer_trace.specs.declared.protocol.Protocol.TheVariants.{Boruvka, Echo, Ghs}
+use Rattle.peer_trace.specs.declared.protocol.Protocol.TheVariants.{Boruvka, Echo, Gather, Ghs}
 use Rattle.ghs_protocol.specs.Marks.{HasEnded}
 use Rattle.ghs_protocol.specs.Run.{net_after}
 use Rattle.peer_network.specs.declared.wake_set.WakeSet.{WakeSet}
@@ -53,6 +53,7 @@ limit_stops : (p : Protocol) (o : RunOptions) (g : Shape) (output : List ℕ) �
 limit_stops Ghs o g output out = (out.events, out.stopped)
 limit_stops Boruvka o g output out = (out.events, out.stopped)
 limit_stops Echo o g output out = (out.events, out.stopped)
+limit_stops Gather o g output out = (out.events, out.stopped)
 
 pub limit_cause : (p : Protocol) (o : RunOptions) (input output : List ℕ) → IsOfText o.wake (λ g. (verbs_of p).runs o g true) input output →
     IsTextCause o.wake ((verbs_of p).stops o) input serve.TurnLimit

@@ -15,6 +15,7 @@ leaves_room : (p : Protocol) (g : Shape) (setup : Setup) (seed : ℕ) (f : Figur
 leaves_room protocol.Ghs g setup seed f are = are.figures.room
 leaves_room protocol.Boruvka g setup seed f are = are.figures.room
 leaves_room protocol.Echo g setup seed f are = are.figures.room
+leaves_room protocol.Gather g setup seed f are = are.figures.room
 
 pub runs_are_roomy : (p : Protocol) (g : Shape) (setup : Setup) (first : ℕ) (runs : List Figures) → AreRunsBy p g setup first runs →
     All LeavesRoom runs

@@ -13,6 +13,10 @@ use Rattle.boruvka_protocol.specs.Bound.{bound_of}
 use Rattle.echo.specs.Echo as wave
 use Rattle.echo.specs.Ended as wave_end
 use Rattle.echo.specs.Words as wave_words
+use Rattle.gather.specs.Words as gather_words
+use Rattle.gather_node.specs.Gather.{gather}
+use Rattle.gather_protocol.specs.Bound as gather_bound
+use Rattle.gather_protocol.specs.Laws as gather_laws
 use Rattle.ghs_answers.specs.Sheets.{setup_of}
 use Rattle.ghs_cli.specs.Parted.{IsPartedByGhs}
 use Rattle.ghs_sweep.specs.Measure.{about_ghs}
@@ -43,6 +47,8 @@ kind_columns =
     ∷ codes "name"
     ∷ codes "explore"
     ∷ codes "echo"
+    ∷ codes "back"
+    ∷ codes "tree"
     ∷ []
 
 -- what its lines tell of a protocol
@@ -50,6 +56,7 @@ abbrev pub about_of : Protocol → About
 about_of protocol.Ghs = about_ghs
 about_of protocol.Boruvka = rules.about_rules boruvka words
 about_of protocol.Echo = rules.about_rules wave.echo wave_words.words
+about_of protocol.Gather = rules.about_rules gather gather_words.words
 
 abbrev pub layout_by : Protocol → Layout
 layout_by p = layout_of (about_of p) kind_columns
@@ -59,6 +66,7 @@ abbrev pub AreFiguresBy : Protocol → Shape → Setup → ℕ → Figures → T
 AreFiguresBy protocol.Ghs = ghs.AreFiguresOf
 AreFiguresBy protocol.Boruvka = rules.AreFiguresOf boruvka bound_of marks_branch HasEnded
 AreFiguresBy protocol.Echo = rules.AreFiguresOf wave.echo wave.bound_of wave_end.marks_parent wave_end.HasEnded
+AreFiguresBy protocol.Gather = rules.AreFiguresOf gather gather_bound.bound_of gather_laws.marks_branch gather_laws.HasEnded
 
 -- the figures of the runs of seeds from the first on
 abbrev pub AreRunsBy : Protocol → Shape → Setup → ℕ → List Figures → Type 0
@@ -69,6 +77,7 @@ abbrev pub IsBoundBy : Protocol → Shape → ℕ → Type 0
 IsBoundBy protocol.Ghs g n = IsBound g.nodes (length g.keys) n
 IsBoundBy protocol.Boruvka g n = n ≡ bound_of g
 IsBoundBy protocol.Echo g n = n ≡ wave.bound_of g
+IsBoundBy protocol.Gather g n = n ≡ gather_bound.bound_of g
 
 -- the names of the kinds of messages that have columns by parts: the protocol's own, or where there are several protocols those of all
 abbrev pub part_names : Bool → Protocol → List (List ℕ)
@@ -89,3 +98,4 @@ abbrev pub IsPartedBy : Protocol → SweepOptions → By → List Column → Lis
 IsPartedBy protocol.Ghs = IsPartedByGhs
 IsPartedBy protocol.Boruvka = IsPartedByRules boruvka words HasEnded
 IsPartedBy protocol.Echo = IsPartedByRules wave.echo wave_words.words wave_end.HasEnded
+IsPartedBy protocol.Gather = IsPartedByRules gather gather_words.words gather_laws.HasEnded

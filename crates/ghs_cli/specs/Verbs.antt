@@ -2,6 +2,7 @@
 use Rattle.std.specs.Prelude.{ℕ, Bool, List}
 use Rattle.ghs_graph.specs.declared.key.Key.{Key}
 use Rattle.ghs_graph.specs.Graph.{Shape}
+use Rattle.ghs_graph.specs.Links.{IsTree}
 use Rattle.peer_machine.specs.Net.{Net}
 use Rattle.peer_machine.specs.Rules.{Rules}
 use Rattle.peer_network.specs.declared.event.Event.{Event}
@@ -18,6 +19,11 @@ use Rattle.echo.specs.Echo as wave
 use Rattle.echo.specs.Ended as wave_end
 use Rattle.echo.specs.Looks as wave_looks
 use Rattle.echo.specs.Words as wave_words
+use Rattle.gather.specs.Looks as gather_looks
+use Rattle.gather.specs.Words as gather_words
+use Rattle.gather_node.specs.Gather.{gather}
+use Rattle.gather_protocol.specs.Bound as gather_bound
+use Rattle.gather_protocol.specs.Laws as gather_laws
 use Rattle.peer_view.specs.PairPage.{IsPairPage}
 use Rattle.peer_view.specs.RunPage.{IsRunPage}
 use Rattle.ghs_commands.specs.declared.exploring.ExploreOptions.{ExploreOptions}
@@ -111,3 +117,8 @@ verbs_of protocol.Boruvka =
 verbs_of protocol.Echo =
     any_verbs wave.echo wave_end.HasEnded wave_words.words wave.bound_of wave_end.marks_parent wave_end.IsForest protocol.Echo
     (IsRunPage wave.echo wave_words.words wave_looks.looks wave.bound_of) (IsPairPage wave.echo wave_words.words wave_looks.looks wave.bound_of)
+verbs_of protocol.Gather =
+    any_verbs gather gather_laws.HasEnded gather_words.words gather_bound.bound_of gather_laws.marks_branch (λ g ks. IsTree g.keys ks)
+    protocol.Gather
+    (IsRunPage gather gather_words.words gather_looks.looks gather_bound.bound_of)
+    (IsPairPage gather gather_words.words gather_looks.looks gather_bound.bound_of)

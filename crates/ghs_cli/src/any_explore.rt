@@ -13,7 +13,6 @@ use peer_explore::explored::Explored;
 use peer_explore::fault::ExploreFault;
 use peer_explore::laws::law_range;
 use peer_machine::explorable::{Explorable, Finite};
-use peer_machine::fixed::Fixed;
 use peer_report::explored_text::explored_text;
 use peer_trace::protocol::Protocol;
 use peer_trace::trace::write_trace_of;
@@ -21,21 +20,23 @@ use peer_words::spoken::Spoken;
 use std::alloc::{AllocError, Global};
 
 /// What is found of all runs of a graph. Stored events name the protocol.
-pub(crate) fn found<P: Explorable + Finite + Spoken + Fixed, R: Eprint>(
+pub(crate) fn found<P: Explorable + Finite + Spoken, R: Eprint>(
     rt: &R,
     alloc: Global,
+    setting: P::Setting,
     protocol: Protocol,
     options: &ExploreOptions,
     graph: &Graph,
 ) -> Result<Vec<u8>, ServeFault>
-    requires { AreExploreLimits options.now }
+    requires setting { P.goes_by setting }
+    requires limits { AreExploreLimits options.now }
     ensures text { IfOk result (λ text. IsFound P.rules P.words.kind P.bound protocol options.now.finding options.now graph.now text.items) }
     ensures fault { IfErr result (FindsNothing P.rules options.now graph.now) }
 {
     let teller = Teller::new(rt, options.progress);
     match explore_watched::<P, Teller<R>>(
         alloc,
-        P::setting(),
+        setting,
         graph,
         options.wake,
         options.limit,

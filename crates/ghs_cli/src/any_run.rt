@@ -24,7 +24,6 @@ use ghs_gr::device::Sink;
 use ghs_graph::graph::Graph;
 use ghs_report::report_text::ReportFault;
 use peer_machine::ends::FindsTree;
-use peer_machine::fixed::Fixed;
 use peer_machine::measured::Measured;
 use peer_network::event::Event;
 use peer_network::wake_set::WakeSet;
@@ -41,10 +40,12 @@ use std::alloc::{AllocError, Global};
 /// What goes out of the run that the seed of the options picks of a graph. Stored events name the protocol.
 pub(crate) fn ran<P: FindsTree + Spoken + Measured>(
     alloc: Global,
+    setting: P::Setting,
     protocol: Protocol,
     options: &RunOptions,
     graph: Graph,
 ) -> Result<Output, ServeFault>
+    requires { P.goes_by setting }
     ensures output { IfOk result (λ o. IsRan P.rules P.has_ended P.words.kind P.bound P.is_branch P.found protocol options.now graph o.at_limit o.text.items) }
     ensures limit { IfOk result (λ o. o.at_limit ≡ true → options.now.show ≡ Events) }
     ensures fault { IfErr result (StopsRun P.rules P.has_ended options.now graph) }
@@ -52,6 +53,7 @@ pub(crate) fn ran<P: FindsTree + Spoken + Measured>(
 {
     let (world, end) = run_by_seed::<P>(
         alloc,
+        setting,
         graph,
         options.wake,
         options.schedule_kind,
@@ -135,14 +137,16 @@ fn stopped<P: FindsTree + Spoken>(
 /// The text of the net that a list of events leaves of a graph.
 pub(crate) fn replayed<P: FindsTree + Spoken>(
     alloc: Global,
+    setting: P::Setting,
     wake: WakeSet,
     graph: Graph,
     events: &[Event],
 ) -> Result<Vec<u8>, ServeFault>
+    requires { P.goes_by setting }
     ensures text { IfOk result (λ text. IsReplayed P.rules P.has_ended P.words.kind P.bound P.is_branch P.found wake graph events.now text.items) }
     ensures fault { IfErr result (λ fault. IsRunCause P.rules P.has_ended wake graph events.now fault) }
 {
-    match replay::<P>(alloc, P::setting(), graph, wake, events) {
+    match replay::<P>(alloc, setting, graph, wake, events) {
         Ok(world) => finished(alloc, &world),
         Err((_, fault)) => Err(fault.into()),
     }
@@ -164,14 +168,16 @@ fn finished<P: FindsTree + Spoken>(alloc: Global, world: &World<P>) -> Result<Ve
 }
 
 /// Writes the lines of the chosen steps of events, once they are known to be a run of a graph.
-pub(crate) fn told<P: Spoken + Fixed, W: Sink>(
+pub(crate) fn told<P: Spoken, W: Sink>(
     alloc: Global,
+    setting: P::Setting,
     options: &StepsOptions,
     graph: Graph,
     events: &[Event],
     out: &mut W,
 ) -> Result<(), ServeFault>
-    requires { W.has_failed out.old ≡ false }
+    requires setting { P.goes_by setting }
+    requires out { W.has_failed out.old ≡ false }
     ensures told { HasTold (AreSteps P.rules P.words options.now graph events.now) (IsFirstUnlawful P.rules graph options.now.wake events.now) (W.held out.old) (W.held out.new) result }
     ensures write { IsWrite result ↔ (W.has_failed out.new ≡ true) }
     ensures unread { IsErrOf result ServeFault.Read → ⊥ }
@@ -180,7 +186,7 @@ pub(crate) fn told<P: Spoken + Fixed, W: Sink>(
     let wake = options.wake;
     write_steps::<P, W>(
         alloc,
-        P::setting(),
+        setting,
         graph,
         wake,
         events,

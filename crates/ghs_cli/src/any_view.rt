@@ -22,30 +22,35 @@ use std::alloc::Global;
 /// The page of the run that a seed picks of a graph, to its end or to its last turn, or of the runs of two seeds.
 pub(crate) fn viewed<P: Ends + Viewed>(
     alloc: Global,
+    setting: P::Setting,
     options: &ViewOptions,
     graph: Graph,
 ) -> Result<Vec<u8>, ServeFault>
+    requires { P.goes_by setting }
     ensures text { IfOk result (λ text. IsView P.rules (IsRunPage P.rules P.words P.looks P.bound) P.has_ended (IsPairPage P.rules P.words P.looks P.bound) options.now graph text.items) }
     ensures fault { IfErr result (λ fault. HasNoView P.rules P.has_ended options.now graph fault) }
 {
     match options.beside {
-        None => run_viewed::<P>(alloc, options, graph),
-        Some(beside) => pair_viewed::<P>(alloc, options, beside, graph),
+        None => run_viewed::<P>(alloc, setting, options, graph),
+        Some(beside) => pair_viewed::<P>(alloc, setting, options, beside, graph),
     }
 }
 
 /// The page of one run.
 fn run_viewed<P: Ends + Viewed>(
     alloc: Global,
+    setting: P::Setting,
     options: &ViewOptions,
     graph: Graph,
 ) -> Result<Vec<u8>, ServeFault>
-    requires { options.now.beside ≡ None }
+    requires setting { P.goes_by setting }
+    requires alone { options.now.beside ≡ None }
     ensures text { IfOk result (λ text. IsRunView P.rules (IsRunPage P.rules P.words P.looks P.bound) P.has_ended options.now graph text.items) }
     ensures fault { IfErr result (λ fault. HasNoView P.rules P.has_ended options.now graph fault) }
 {
     let (world, _) = run_by_seed::<P>(
         alloc,
+        setting,
         graph,
         options.wake,
         options.schedule_kind,
@@ -85,11 +90,13 @@ fn page_of<P: Ends + Viewed>(
 /// The page of the runs that two seeds pick of a graph: the options' and another.
 fn pair_viewed<P: Ends + Viewed>(
     alloc: Global,
+    setting: P::Setting,
     options: &ViewOptions,
     beside: u64,
     graph: Graph,
 ) -> Result<Vec<u8>, ServeFault>
-    requires { options.now.beside ≡ Some beside }
+    requires setting { P.goes_by setting }
+    requires beside { options.now.beside ≡ Some beside }
     ensures text { IfOk result (λ text. IsPairView P.rules (IsRunPage P.rules P.words P.looks P.bound) P.has_ended (IsPairPage P.rules P.words P.looks P.bound) options.now beside graph text.items) }
     ensures fault { IfErr result (λ fault. HasNoView P.rules P.has_ended options.now graph fault) }
 {
@@ -97,23 +104,26 @@ fn pair_viewed<P: Ends + Viewed>(
     let seed = options.seed;
     let (first, _) = run_by_seed::<P>(
         alloc,
+        setting,
         graph,
         options.wake,
         options.schedule_kind,
         seed,
         options.turns,
     )?;
-    viewed_beside(alloc, options, beside, same, &first)
+    viewed_beside(alloc, setting, options, beside, same, &first)
 }
 
 /// The page of a world's run, and beside it of the one that another seed picks of the same graph.
 fn viewed_beside<P: Ends + Viewed>(
     alloc: Global,
+    setting: P::Setting,
     options: &ViewOptions,
     beside: u64,
     graph: Graph,
     first: &World<P>,
 ) -> Result<Vec<u8>, ServeFault>
+    requires setting { P.goes_by setting }
     requires beside { options.now.beside ≡ Some beside }
     requires graph { first.now.net.graph ≡ graph }
     requires first { IsShownBy P.rules P.has_ended options.now.seed options.now graph first.now.net.trace }
@@ -122,6 +132,7 @@ fn viewed_beside<P: Ends + Viewed>(
 {
     let (second, _) = run_by_seed::<P>(
         alloc,
+        setting,
         graph,
         options.wake,
         options.schedule_kind,
@@ -167,17 +178,19 @@ fn pair_page_of<P: Ends + Viewed>(
 /// The page of events, once they are known to be a run of a graph.
 pub(crate) fn stored_viewed<P: Ends + Viewed>(
     alloc: Global,
+    setting: P::Setting,
     options: &StoredViewOptions,
     graph: Graph,
     events: &[Event],
 ) -> Result<Vec<u8>, ServeFault>
+    requires { P.goes_by setting }
     ensures text { IfOk result (λ text. IsStoredView P.rules (IsRunPage P.rules P.words P.looks P.bound) options.now graph events.now text.items) }
     ensures fault { IfErr result (λ fault. HasNoStoredView P.rules options.now graph events.now fault) }
 {
     let wake = options.wake;
     match stored_page::<P>(
         alloc,
-        P::setting(),
+        setting,
         graph,
         wake,
         events,

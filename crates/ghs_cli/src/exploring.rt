@@ -12,7 +12,9 @@ use crate::any_explore;
 use crate::progress::Teller;
 use crate::reading::graph_of;
 use boruvka::protocol::Boruvka;
+use bumpalo::Bump;
 use echo::protocol::Echo;
+use gather::protocol::Gather;
 use ghs_answers::fault::ServeFault;
 use ghs_commands::exploring::{ExploreOptions, Finding};
 use ghs_explore::explore::explore_watched;
@@ -61,8 +63,19 @@ fn found_by<R: Eprint>(
 {
     match protocol {
         Protocol::Ghs => found(rt, alloc, options, graph),
-        Protocol::Boruvka => any_explore::found::<Boruvka, R>(rt, alloc, protocol, options, graph),
-        Protocol::Echo => any_explore::found::<Echo, R>(rt, alloc, protocol, options, graph),
+        Protocol::Boruvka => any_explore::found::<Boruvka, R>(
+            rt,
+            alloc,
+            (),
+            protocol,
+            options,
+            graph,
+        ),
+        Protocol::Echo => any_explore::found::<Echo, R>(rt, alloc, (), protocol, options, graph),
+        Protocol::Gather => {
+            let lists = Bump::new(alloc);
+            any_explore::found::<Gather, R>(rt, alloc, &lists, protocol, options, graph)
+        }
     }
 }
 

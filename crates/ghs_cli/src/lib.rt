@@ -16,6 +16,7 @@ mod beside;
 mod charting;
 mod exploring;
 mod fronts;
+mod gathered;
 mod making;
 pub mod networks;
 mod parting;

@@ -11,7 +11,9 @@ ghost use Rattle.std.specs.Thread.{IsSync};
 use crate::progress::tell_seeds;
 use crate::swept::part_columns;
 use boruvka::protocol::Boruvka;
+use bumpalo::Bump;
 use echo::protocol::Echo;
+use gather::protocol::Gather;
 use ghs_answers::sheets::setup_of;
 use ghs_choices::by::By;
 use ghs_commands::job::SweepOptions;
@@ -189,11 +191,35 @@ fn put_seed(
     match protocol {
         Protocol::Ghs => put_ghs(alloc, lines, options, by, columns, front, graph, seed),
         Protocol::Boruvka => peer::put_seed::<Boruvka>(
-            alloc, lines, form, front, by, columns, graph, setup, seed,
+            alloc,
+            (),
+            lines,
+            form,
+            front,
+            by,
+            columns,
+            graph,
+            setup,
+            seed,
         ),
         Protocol::Echo => peer::put_seed::<Echo>(
-            alloc, lines, form, front, by, columns, graph, setup, seed,
+            alloc,
+            (),
+            lines,
+            form,
+            front,
+            by,
+            columns,
+            graph,
+            setup,
+            seed,
         ),
+        Protocol::Gather => {
+            let lists = Bump::new(alloc);
+            peer::put_seed::<Gather>(
+                alloc, &lists, lines, form, front, by, columns, graph, setup, seed,
+            )
+        }
     }
 }
 

@@ -14,7 +14,9 @@ ghost use Rattle.std.specs.Prelude.{◌≡◌, ◌≤◌, ◌⊎◌, ◌↔◌, 
 use crate::any_run;
 use crate::reading::{events_of, graph_of};
 use boruvka::protocol::Boruvka;
+use bumpalo::Bump;
 use echo::protocol::Echo;
+use gather::protocol::Gather;
 use ghs_answers::fault::ServeFault;
 use ghs_gr::device::Source;
 use ghs_graph::graph::Graph;
@@ -64,8 +66,12 @@ fn replayed_by(
 {
     match protocol {
         Protocol::Ghs => replayed(alloc, wake, graph, events),
-        Protocol::Boruvka => any_run::replayed::<Boruvka>(alloc, wake, graph, events),
-        Protocol::Echo => any_run::replayed::<Echo>(alloc, wake, graph, events),
+        Protocol::Boruvka => any_run::replayed::<Boruvka>(alloc, (), wake, graph, events),
+        Protocol::Echo => any_run::replayed::<Echo>(alloc, (), wake, graph, events),
+        Protocol::Gather => {
+            let lists = Bump::new(alloc);
+            any_run::replayed::<Gather>(alloc, &lists, wake, graph, events)
+        }
     }
 }
 

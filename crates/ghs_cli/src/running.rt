@@ -20,7 +20,9 @@ use crate::any_run;
 use crate::progress::{Tallying, run_told, tell_end};
 use crate::reading::graph_of;
 use boruvka::protocol::Boruvka;
+use bumpalo::Bump;
 use echo::protocol::Echo;
+use gather::protocol::Gather;
 use ghs_answers::fault::ServeFault;
 use ghs_commands::job::{RunOptions, Show};
 use ghs_gr::device::{Sink, Source};
@@ -90,6 +92,7 @@ fn law_never_stops(protocol: Protocol)
         Protocol::Ghs => {}
         Protocol::Boruvka => law_turns::<Boruvka>(),
         Protocol::Echo => law_turns::<Echo>(),
+        Protocol::Gather => law_turns::<Gather>(),
     }
 }
 
@@ -130,8 +133,12 @@ fn ran_by<R: Threads + Wait + Eprint + Sync>(
 {
     match protocol {
         Protocol::Ghs => ran(rt, alloc, options, graph),
-        Protocol::Boruvka => any_run::ran::<Boruvka>(alloc, protocol, options, graph),
-        Protocol::Echo => any_run::ran::<Echo>(alloc, protocol, options, graph),
+        Protocol::Boruvka => any_run::ran::<Boruvka>(alloc, (), protocol, options, graph),
+        Protocol::Echo => any_run::ran::<Echo>(alloc, (), protocol, options, graph),
+        Protocol::Gather => {
+            let lists = Bump::new(alloc);
+            any_run::ran::<Gather>(alloc, &lists, protocol, options, graph)
+        }
     }
 }
 

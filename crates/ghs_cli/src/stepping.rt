@@ -12,7 +12,9 @@ ghost use Rattle.std.specs.Prelude.{◌≡◌, ◌≤◌, ◌⊎◌, ◌↔◌, 
 use crate::any_run;
 use crate::reading::{events_of, graph_of};
 use boruvka::protocol::Boruvka;
+use bumpalo::Bump;
 use echo::protocol::Echo;
+use gather::protocol::Gather;
 use ghs_answers::fault::ServeFault;
 use ghs_commands::job::StepsOptions;
 use ghs_gr::device::{Sink, Source};
@@ -64,8 +66,12 @@ fn told_by<W: Sink>(
 {
     match protocol {
         Protocol::Ghs => told(alloc, options, graph, events, out),
-        Protocol::Boruvka => any_run::told::<Boruvka, W>(alloc, options, graph, events, out),
-        Protocol::Echo => any_run::told::<Echo, W>(alloc, options, graph, events, out),
+        Protocol::Boruvka => any_run::told::<Boruvka, W>(alloc, (), options, graph, events, out),
+        Protocol::Echo => any_run::told::<Echo, W>(alloc, (), options, graph, events, out),
+        Protocol::Gather => {
+            let lists = Bump::new(alloc);
+            any_run::told::<Gather, W>(alloc, &lists, options, graph, events, out)
+        }
     }
 }
 

@@ -3,8 +3,10 @@ ghost use Rattle.ghs_cli.specs.Swept.{AreRunsBy, IsBoundBy, kind_columns, layout
 ghost use Rattle.peer_sweep.specs.Sweep.{HasTurns};
 ghost use Rattle.std.specs.Prelude.{◌≡◌, ◌+◌, ◌≤◌, ◌^◌, IfOk, OnErr, length};
 
+use crate::gathered::Gathered;
 use boruvka::protocol::Boruvka;
 use echo::protocol::Echo;
+use gather::protocol::message_bound;
 use ghs_choices::by::By;
 use ghs_graph::bounds::bound;
 use ghs_graph::graph::Graph;
@@ -22,7 +24,7 @@ use std::alloc::{AllocError, Global};
 use std::thread::Threads;
 
 /// The names of the columns of kinds of messages: those of GHS, and behind them those that only others have.
-fn kind_columns() -> [Word<'static>; 10]
+fn kind_columns() -> [Word<'static>; 12]
     ensures { result ≡ kind_columns }
 {
     [
@@ -36,6 +38,8 @@ fn kind_columns() -> [Word<'static>; 10]
         Word::of(b"name"),
         Word::of(b"explore"),
         Word::of(b"echo"),
+        Word::of(b"back"),
+        Word::of(b"tree"),
     ]
 }
 
@@ -48,6 +52,7 @@ pub(crate) fn table_by(alloc: Global, protocol: Protocol) -> Result<Table<'stati
         Protocol::Ghs => Table::of::<Ghs>(alloc, &kinds),
         Protocol::Boruvka => Table::of::<ByRules<Boruvka>>(alloc, &kinds),
         Protocol::Echo => Table::of::<ByRules<Echo>>(alloc, &kinds),
+        Protocol::Gather => Table::of::<Gathered>(alloc, &kinds),
     }
 }
 
@@ -82,6 +87,9 @@ pub(crate) fn run_seeds_by<R: Threads + Sync>(
         Protocol::Echo => run_seeds::<ByRules<Echo>, R>(
             rt, alloc, graph, setup, first, runs, count, threads,
         ),
+        Protocol::Gather => {
+            run_seeds::<Gathered, R>(rt, alloc, graph, setup, first, runs, count, threads)
+        }
     }
 }
 
@@ -93,6 +101,7 @@ pub(crate) fn bound_by(protocol: Protocol, graph: &Graph) -> u64
         Protocol::Ghs => bound(graph.nodes(), graph.links()),
         Protocol::Boruvka => Boruvka::bound_of((), graph),
         Protocol::Echo => Echo::bound_of((), graph),
+        Protocol::Gather => message_bound(graph),
     }
 }
 
@@ -111,6 +120,7 @@ pub(crate) fn part_columns(
         Protocol::Ghs => columns_by::<Ghs>(alloc, by, &names),
         Protocol::Boruvka => columns_by::<ByRules<Boruvka>>(alloc, by, &names),
         Protocol::Echo => columns_by::<ByRules<Echo>>(alloc, by, &names),
+        Protocol::Gather => columns_by::<Gathered>(alloc, by, &names),
     }
 }
 
@@ -129,5 +139,6 @@ fn part_names(
         Protocol::Ghs => names_of::<Ghs>(alloc),
         Protocol::Boruvka => names_of::<ByRules<Boruvka>>(alloc),
         Protocol::Echo => names_of::<ByRules<Echo>>(alloc),
+        Protocol::Gather => names_of::<Gathered>(alloc),
     }
 }

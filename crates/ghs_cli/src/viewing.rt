@@ -14,7 +14,9 @@ use crate::any_view;
 use crate::beside::pair_viewed;
 use crate::reading::{events_of, graph_of};
 use boruvka::protocol::Boruvka;
+use bumpalo::Bump;
 use echo::protocol::Echo;
+use gather::protocol::Gather;
 use ghs_answers::fault::ServeFault;
 use ghs_commands::job::{StoredViewOptions, ViewOptions};
 use ghs_gr::device::Source;
@@ -63,8 +65,12 @@ fn viewed_by(
 {
     match protocol {
         Protocol::Ghs => viewed(alloc, options, graph),
-        Protocol::Boruvka => any_view::viewed::<Boruvka>(alloc, options, graph),
-        Protocol::Echo => any_view::viewed::<Echo>(alloc, options, graph),
+        Protocol::Boruvka => any_view::viewed::<Boruvka>(alloc, (), options, graph),
+        Protocol::Echo => any_view::viewed::<Echo>(alloc, (), options, graph),
+        Protocol::Gather => {
+            let lists = Bump::new(alloc);
+            any_view::viewed::<Gather>(alloc, &lists, options, graph)
+        }
     }
 }
 
@@ -168,8 +174,12 @@ fn stored_viewed_by(
 {
     match protocol {
         Protocol::Ghs => stored_viewed(alloc, options, graph, events),
-        Protocol::Boruvka => any_view::stored_viewed::<Boruvka>(alloc, options, graph, events),
-        Protocol::Echo => any_view::stored_viewed::<Echo>(alloc, options, graph, events),
+        Protocol::Boruvka => any_view::stored_viewed::<Boruvka>(alloc, (), options, graph, events),
+        Protocol::Echo => any_view::stored_viewed::<Echo>(alloc, (), options, graph, events),
+        Protocol::Gather => {
+            let lists = Bump::new(alloc);
+            any_view::stored_viewed::<Gather>(alloc, &lists, options, graph, events)
+        }
     }
 }
 

@@ -127,7 +127,7 @@ check_rule = valued_rule (codes "check") (codes "check")
 abbrev pub tree_command : App
 tree_command = with_rules (file_rule ∷ core_rule ∷ []) (new_app (codes "tree"))
 
--- `run [FILE] [--protocol ghs|boruvka|echo|own] [--book BOOK] [--check tree|spanning|leader|halted] [--seed S]
+-- `run [FILE] [--protocol ghs|boruvka|echo|gather|own] [--book BOOK] [--check tree|spanning|leader|halted] [--seed S]
 -- [--schedule seeded|patient|rounds|waits|lifo|round-robin] [--workers W] [--wake all|first|V,..] [--turns T]
 -- [--print report|trace|time] [--core] [--progress] [--tally]`
 abbrev pub run_command : App
@@ -137,11 +137,11 @@ run_command =
     ∷ turns_rule ∷ print_rule ∷ core_rule ∷ progress_rule ∷ tally_rule ∷ [])
     (new_app (codes "run"))
 
--- `replay TRACE [FILE] [--protocol ghs|boruvka|echo|own] [--book BOOK] [--check tree|spanning|leader|halted] [--wake all|first|V,..]`
+-- `replay TRACE [FILE] [--protocol ghs|boruvka|echo|gather|own] [--book BOOK] [--check tree|spanning|leader|halted] [--wake all|first|V,..]`
 abbrev pub replay_command : App
 replay_command = with_rules (trace_rule ∷ file_rule ∷ protocol_rule ∷ own_rule ∷ check_rule ∷ wake_rule ∷ []) (new_app (codes "replay"))
 
--- `steps TRACE [FILE] [--protocol ghs|boruvka|echo|own] [--book BOOK] [--wake all|first|V,..] [--from A] [--to B] [--node V] [--json]`
+-- `steps TRACE [FILE] [--protocol ghs|boruvka|echo|gather|own] [--book BOOK] [--wake all|first|V,..] [--from A] [--to B] [--node V] [--json]`
 abbrev pub steps_command : App
 steps_command =
     with_rules
@@ -156,7 +156,7 @@ book_rule = record (new_rule (codes "book")) { long = Some (codes "book"); requi
 abbrev pub judge_command : App
 judge_command = with_rules (trace_rule ∷ file_rule ∷ book_rule ∷ wake_rule ∷ []) (new_app (codes "judge"))
 
--- `sweep [FILE ..] [--protocol ghs|boruvka|echo,..|own] [--book BOOK] [--check tree|spanning|leader|halted] --seeds FIRST..LAST
+-- `sweep [FILE ..] [--protocol ghs|boruvka|echo|gather,..|own] [--book BOOK] [--check tree|spanning|leader|halted] --seeds FIRST..LAST
 -- [--schedule seeded|patient|rounds|waits|lifo|round-robin] [--workers W] [--wake all|first|V,..] [--turns T]
 -- [--print runs|summary|chart] [--by node|level|rule] [--names] [--json] [--progress]`
 abbrev pub sweep_command : App
@@ -166,7 +166,7 @@ sweep_command =
     ∷ turns_rule ∷ sheet_rule ∷ by_rule ∷ names_rule ∷ json_rule ∷ progress_rule ∷ [])
     (new_app (codes "sweep"))
 
--- `view [FILE] [--protocol ghs|boruvka|echo|own] [--book BOOK] [--seed S] [--seeds FIRST,SECOND]
+-- `view [FILE] [--protocol ghs|boruvka|echo|gather|own] [--book BOOK] [--seed S] [--seeds FIRST,SECOND]
 -- [--schedule seeded|patient|rounds|waits|lifo|round-robin] [--wake all|first|V,..] [--turns T] [--trace TRACE] [--from A] [--to B]`
 abbrev pub view_command : App
 view_command =
@@ -211,7 +211,7 @@ found_rule = record (new_rule (codes "found")) { long = Some (codes "print"); de
 abbrev pub end_rule : Rule
 end_rule = option_rule (codes "end") (codes "1")
 
--- `explore [FILE] [--protocol ghs|boruvka|echo|own] [--book BOOK] [--check tree|spanning|leader|halted] [--wake all|first|V,..]
+-- `explore [FILE] [--protocol ghs|boruvka|echo|gather|own] [--book BOOK] [--check tree|spanning|leader|halted] [--wake all|first|V,..]
 -- [--limit STATES] [--print report|trace] [--end K] [--progress]`
 abbrev pub explore_command : App
 explore_command =

@@ -9,7 +9,7 @@ use clap::{Arg, ArgAction, Command};
 use std::alloc::{AllocError, Global};
 
 /// The program's version, and by which kit its proofs hold.
-pub const VERSION: &str = "2.6.0, proved with rattle-kit-13f logic dac8208d650f15bf";
+pub const VERSION: &str = "2.7.0, proved with rattle-kit-13f logic dac8208d650f15bf";
 
 /// The program's commands, with their help.
 #[tactic(auto, unfolding(crate::specs::Grammar::program))]
@@ -518,7 +518,7 @@ fn protocol<'a>(alloc: Global) -> Arg<'a>
     ensures rule { rule_of result ≡ protocol_rule }
 {
     option(alloc, "protocol", "ghs").help(
-        "Which protocol the nodes follow: ghs, boruvka (Borůvka in step), echo (the echo wave) or own (your own, whose rules are the book of --book); boruvka and echo run without threads and by the schedules seeded, patient, rounds and lifo, own by seeded alone",
+        "Which protocol the nodes follow: ghs, boruvka (Borůvka in step), echo (the echo wave), gather (Gather) or own (your own, whose rules are the book of --book); boruvka, echo and gather run without threads and by the schedules seeded, patient, rounds and lifo, own by seeded alone",
     )
 }
 
@@ -530,7 +530,7 @@ fn protocols<'a>(alloc: Global) -> Arg<'a>
     valued(alloc, "protocols", "protocol")
         .default_value("ghs")
         .help(
-            "Which protocols the nodes follow, one or more between commas: ghs, boruvka (Borůvka in step) and echo (the echo wave); the last two run by the schedules seeded, patient, rounds and lifo. Or own alone: your own, whose rules are the book of --book",
+            "Which protocols the nodes follow, one or more between commas: ghs, boruvka (Borůvka in step), echo (the echo wave) and gather (Gather); the last three run by the schedules seeded, patient, rounds and lifo. Or own alone: your own, whose rules are the book of --book",
         )
 }
 

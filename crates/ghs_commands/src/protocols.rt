@@ -14,7 +14,7 @@ use peer_trace::protocol::Protocol;
 use std::alloc::{AllocError, Global};
 
 /// The names that `--protocol` may have: those of the protocols that there are, and that of a user's own.
-const NAMES: &[&str] = &["ghs", "boruvka", "echo", "own"];
+const NAMES: &[&str] = &["ghs", "boruvka", "echo", "gather", "own"];
 
 /// Which protocol the nodes follow.
 pub(crate) fn protocol_of<'a>(matches: &ArgMatches<'a>) -> Protocol

@@ -6,6 +6,7 @@ use ghs_choices::schedule_kind::ScheduleKind;
 use ghs_graph::graph::Graph;
 use ghs_test_graphs::graphs::PATH_OF_THREE;
 use peer_machine::ends::FindsTree;
+use peer_machine::fixed::Fixed;
 use peer_network::wake_set::WakeSet;
 use peer_report::report_text::run_text;
 use peer_report::run::run_by_seed;
@@ -13,13 +14,14 @@ use peer_words::spoken::Spoken;
 use std::alloc::Global;
 
 /// The report of the run that a seed picks, of any protocol that finds links and has words.
-pub fn report_of<P: FindsTree + Spoken>(
+pub fn report_of<P: FindsTree + Fixed + Spoken>(
     alloc: Global,
     graph: Graph,
     seed: u64,
 ) -> Result<Vec<u8>, Fault> {
     let kind = ScheduleKind::Seeded;
-    let (world, _) = run_by_seed::<P>(alloc, graph, WakeSet::First, kind, seed, 1 << 40)?;
+    let setting = P::setting();
+    let (world, _) = run_by_seed::<P>(alloc, setting, graph, WakeSet::First, kind, seed, 1 << 40)?;
     Ok(run_text(alloc, &world)?)
 }
 

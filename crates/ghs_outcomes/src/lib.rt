@@ -11,5 +11,6 @@
 
 mod any;
 mod ghs;
+pub mod led;
 pub mod outcomes;
 mod words;

@@ -8,6 +8,7 @@ ghost use Rattle.std.specs.Prelude.{◌≡◌, ◌≤◌, IfErr, IfOk};
 
 use crate::any::told_by;
 use crate::ghs::told_by_ghs;
+use crate::led::Led;
 use boruvka::protocol::Boruvka;
 use echo::protocol::Echo;
 use ghs_graph::graph::Graph;
@@ -24,12 +25,12 @@ use std::alloc::{AllocError, Global};
 /// it was.
 ///
 /// ```text
-/// let count = hand_outcomes(alloc, Protocol::Ghs, WakeSet::All, 10_000, b"p sp 2 1\na 1 2 5", &mut out);
-/// // where count is at most out.len(), out[..count] is the text, which begins with the line of the row 1
+/// let count = hand_outcomes(alloc, Led::Ghs, WakeSet::All, 10_000, b"p sp 2 1\na 1 2 5", &mut out);
+/// // where count is at most out.len(), out[..count] is the text, which begins with the line of the first row
 /// ```
 pub fn hand_outcomes(
     alloc: Global,
-    protocol: Protocol,
+    protocol: Led,
     wake: WakeSet,
     limit: u32,
     graph: &[u8],
@@ -47,7 +48,7 @@ pub fn hand_outcomes(
 /// What is told of all runs of a graph's text.
 fn answer_of(
     alloc: Global,
-    protocol: Protocol,
+    protocol: Led,
     wake: WakeSet,
     limit: u32,
     graph: &[u8],
@@ -63,7 +64,7 @@ fn answer_of(
 /// What is told of all runs of a graph by a protocol.
 fn told(
     alloc: Global,
-    protocol: Protocol,
+    protocol: Led,
     wake: WakeSet,
     limit: u32,
     graph: &Graph,
@@ -72,9 +73,9 @@ fn told(
     ensures { IfOk result (λ text. IsTold (explores_by protocol) graph.now wake limit text.items) }
 {
     match protocol {
-        Protocol::Ghs => told_by_ghs(alloc, wake, limit, graph),
-        Protocol::Boruvka => told_by::<Boruvka>(alloc, protocol, wake, limit, graph),
-        Protocol::Echo => told_by::<Echo>(alloc, protocol, wake, limit, graph),
+        Led::Ghs => told_by_ghs(alloc, wake, limit, graph),
+        Led::Boruvka => told_by::<Boruvka>(alloc, Protocol::Boruvka, wake, limit, graph),
+        Led::Echo => told_by::<Echo>(alloc, Protocol::Echo, wake, limit, graph),
     }
 }
 

@@ -150,6 +150,7 @@ fn seed_in(alloc: Global, graph: &Graph, by: By) -> Result<Vec<u8>, AllocError> 
     let columns = columns_by::<ByRules<Boruvka>>(alloc, by, &names)?;
     put_seed::<Boruvka>(
         alloc,
+        (),
         &mut text,
         Form::Text,
         b"front,",

@@ -1,8 +1,9 @@
 -- What a page is answered, by each protocol. A further protocol has a line in each of these.
 use Rattle.std.specs.Prelude.{ℕ, Bool, List}
 use Rattle.peer_network.specs.declared.wake_set.WakeSet.{WakeSet}
-use Rattle.peer_trace.specs.declared.protocol.Protocol.{Protocol}
-use Rattle.peer_trace.specs.declared.protocol.Protocol.TheVariants.{Ghs, Boruvka, Echo}
+use Rattle.peer_trace.specs.declared.protocol.Protocol.TheVariants as protocol
+use Rattle.ghs_outcomes.specs.declared.led.Led.{Led}
+use Rattle.ghs_outcomes.specs.declared.led.Led.TheVariants.{Ghs, Boruvka, Echo}
 use Rattle.peer_hand.specs.Answers as any
 use Rattle.peer_hand.specs.Timed as any_timed
 use Rattle.ghs_hand.specs.Answers as ghs
@@ -18,21 +19,21 @@ use Rattle.echo.specs.Looks as wave_looks
 use Rattle.echo.specs.Words as wave_words
 
 -- of a graph's text and a trace's text what the run so far is, and what may come next, or the first fault
-abbrev pub IsSeenBy : Protocol → WakeSet → List ℕ → List ℕ → List ℕ → Type 0
+abbrev pub IsSeenBy : Led → WakeSet → List ℕ → List ℕ → List ℕ → Type 0
 IsSeenBy Ghs wake graph trace text = ghs.IsSeenAnswer wake graph trace text
 IsSeenBy Boruvka wake graph trace text =
-    any.IsSeenAnswer boruvka in_step_words.words in_step_looks.looks in_step_bound.bound_of in_step.HasEnded Boruvka wake graph trace text
+    any.IsSeenAnswer boruvka in_step_words.words in_step_looks.looks in_step_bound.bound_of in_step.HasEnded protocol.Boruvka wake graph trace text
 IsSeenBy Echo wake graph trace text =
-    any.IsSeenAnswer wave.echo wave_words.words wave_looks.looks wave.bound_of wave_end.HasEnded Echo wake graph trace text
+    any.IsSeenAnswer wave.echo wave_words.words wave_looks.looks wave.bound_of wave_end.HasEnded protocol.Echo wake graph trace text
 
 -- the run that goes on from there by a seed; that it is patient makes no difference where nothing is deferred
-abbrev pub IsRunBy : Protocol → WakeSet → List ℕ → List ℕ → Bool → ℕ → List ℕ → Type 0
+abbrev pub IsRunBy : Led → WakeSet → List ℕ → List ℕ → Bool → ℕ → List ℕ → Type 0
 IsRunBy Ghs wake graph trace patient seed text = ghs.IsRunAnswer wake graph trace patient seed text
-IsRunBy Boruvka wake graph trace patient seed text = any.IsRunAnswer boruvka in_step.HasEnded Boruvka wake graph trace seed text
-IsRunBy Echo wake graph trace patient seed text = any.IsRunAnswer wave.echo wave_end.HasEnded Echo wake graph trace seed text
+IsRunBy Boruvka wake graph trace patient seed text = any.IsRunAnswer boruvka in_step.HasEnded protocol.Boruvka wake graph trace seed text
+IsRunBy Echo wake graph trace patient seed text = any.IsRunAnswer wave.echo wave_end.HasEnded protocol.Echo wake graph trace seed text
 
 -- the run by rounds that a seed picks
-abbrev pub IsTimedBy : Protocol → WakeSet → List ℕ → ℕ → List ℕ → Type 0
+abbrev pub IsTimedBy : Led → WakeSet → List ℕ → ℕ → List ℕ → Type 0
 IsTimedBy Ghs wake graph seed text = ghs_timed.IsTimedAnswer wake graph seed text
-IsTimedBy Boruvka wake graph seed text = any_timed.IsTimedAnswer boruvka in_step.HasEnded Boruvka wake graph seed text
-IsTimedBy Echo wake graph seed text = any_timed.IsTimedAnswer wave.echo wave_end.HasEnded Echo wake graph seed text
+IsTimedBy Boruvka wake graph seed text = any_timed.IsTimedAnswer boruvka in_step.HasEnded protocol.Boruvka wake graph seed text
+IsTimedBy Echo wake graph seed text = any_timed.IsTimedAnswer wave.echo wave_end.HasEnded protocol.Echo wake graph seed text

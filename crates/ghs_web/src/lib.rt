@@ -18,6 +18,7 @@ ghost use Rattle.std.specs.Prelude.{◌≡◌};
 use boruvka::protocol::Boruvka;
 use echo::protocol::Echo;
 use ghs_hand::{answers as ghs, timed as ghs_timed};
+use ghs_outcomes::led::Led;
 use ghs_outcomes::outcomes::hand_outcomes;
 use peer_hand::answers::{hand_run, hand_seen};
 use peer_hand::timed::hand_timed;
@@ -137,7 +138,7 @@ pub extern "C" fn ghs_web_outcomes(
 /// What a page is told, by a protocol.
 fn seen_by(
     alloc: Global,
-    protocol: Protocol,
+    protocol: Led,
     wake: WakeSet,
     graph: &[u8],
     trace: &[u8],
@@ -146,16 +147,16 @@ fn seen_by(
     ensures { IsHandedOver (IsSeenBy protocol wake graph.now trace.now) result out.old out.new }
 {
     match protocol {
-        Protocol::Ghs => ghs::hand_seen(alloc, wake, graph, trace, out),
-        Protocol::Boruvka => hand_seen::<Boruvka>(alloc, protocol, wake, graph, trace, out),
-        Protocol::Echo => hand_seen::<Echo>(alloc, protocol, wake, graph, trace, out),
+        Led::Ghs => ghs::hand_seen(alloc, wake, graph, trace, out),
+        Led::Boruvka => hand_seen::<Boruvka>(alloc, Protocol::Boruvka, wake, graph, trace, out),
+        Led::Echo => hand_seen::<Echo>(alloc, Protocol::Echo, wake, graph, trace, out),
     }
 }
 
 /// The run that goes on, by a protocol.
 fn run_by(
     alloc: Global,
-    protocol: Protocol,
+    protocol: Led,
     wake: WakeSet,
     graph: &[u8],
     trace: &[u8],
@@ -166,16 +167,24 @@ fn run_by(
     ensures { IsHandedOver (IsRunBy protocol wake graph.now trace.now patient seed) result out.old out.new }
 {
     match protocol {
-        Protocol::Ghs => ghs::hand_run(alloc, wake, graph, trace, patient, seed, out),
-        Protocol::Boruvka => hand_run::<Boruvka>(alloc, protocol, wake, graph, trace, seed, out),
-        Protocol::Echo => hand_run::<Echo>(alloc, protocol, wake, graph, trace, seed, out),
+        Led::Ghs => ghs::hand_run(alloc, wake, graph, trace, patient, seed, out),
+        Led::Boruvka => hand_run::<Boruvka>(
+            alloc,
+            Protocol::Boruvka,
+            wake,
+            graph,
+            trace,
+            seed,
+            out,
+        ),
+        Led::Echo => hand_run::<Echo>(alloc, Protocol::Echo, wake, graph, trace, seed, out),
     }
 }
 
 /// The run by rounds, by a protocol.
 fn timed_by(
     alloc: Global,
-    protocol: Protocol,
+    protocol: Led,
     wake: WakeSet,
     graph: &[u8],
     seed: u64,
@@ -184,20 +193,20 @@ fn timed_by(
     ensures { IsHandedOver (IsTimedBy protocol wake graph.now seed) result out.old out.new }
 {
     match protocol {
-        Protocol::Ghs => ghs_timed::hand_timed(alloc, wake, graph, seed, out),
-        Protocol::Boruvka => hand_timed::<Boruvka>(alloc, protocol, wake, graph, seed, out),
-        Protocol::Echo => hand_timed::<Echo>(alloc, protocol, wake, graph, seed, out),
+        Led::Ghs => ghs_timed::hand_timed(alloc, wake, graph, seed, out),
+        Led::Boruvka => hand_timed::<Boruvka>(alloc, Protocol::Boruvka, wake, graph, seed, out),
+        Led::Echo => hand_timed::<Echo>(alloc, Protocol::Echo, wake, graph, seed, out),
     }
 }
 
 /// The protocol of a number.
-fn protocol_of(number: u32) -> Protocol
+fn protocol_of(number: u32) -> Led
     ensures { result ≡ protocol_of number }
 {
     match number {
-        0 => Protocol::Ghs,
-        1 => Protocol::Boruvka,
-        _ => Protocol::Echo,
+        0 => Led::Ghs,
+        1 => Led::Boruvka,
+        _ => Led::Echo,
     }
 }
 

@@ -45,7 +45,7 @@ impl<'a, J: Chosen> Measured for Told<'a, J> {
     }
 
     /// O(n) for n bytes of the message and the greeting.
-    fn bits(scale: Ruler<'a>, message: Message) -> u32 {
+    fn bits(scale: Ruler<'a>, message: &Message) -> u32 {
         message_bits(
             scale.rules,
             scale.widths,

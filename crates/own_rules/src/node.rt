@@ -1,10 +1,17 @@
 //! A node of a book, its messages, and how it changes.
 use own_book::answer_fault::AnswerFault;
+use peer_machine::again::Again;
 
 /// A message, by the number of its text in the book.
 #[derive(Clone, Copy, Debug, PartialEq, Eq)]
 pub struct Message {
     pub text: usize,
+}
+
+impl Again for Message {
+    fn again(&self) -> Message {
+        *self
+    }
 }
 
 /// What a node may still do: send so many messages; and where deferrals count, one that it defers is one of them.

@@ -125,7 +125,7 @@ impl<'a, J: Chosen> Protocol for Told<'a, J> {
                 asleep: _,
                 left,
             } => {
-                let lookup = lookup_at(node.number, text, work);
+                let lookup = lookup_at(node.number, text, &work);
                 reacted(alloc, set.rules, node.ports, left, lookup)
             }
             State::Stopped(stop) => Ok(Answer {
@@ -135,9 +135,9 @@ impl<'a, J: Chosen> Protocol for Told<'a, J> {
         }
     }
 
-    fn defers(set: Playing<'a>, node: &Node, work: Work<Message>) -> bool
+    fn defers(set: Playing<'a>, node: &Node, work: &Work<Message>) -> bool
         requires { (set.rules.now ≡ J.book) × (set.most ≡ J.most) }
-        ensures { result ≡ (rules_of J.book J.most).defers node.now work }
+        ensures { result ≡ (rules_of J.book J.most).defers node.now work.now }
     {
         match (work, node.state) {
             (
@@ -170,7 +170,7 @@ impl<'a, J: Chosen> Protocol for Told<'a, J> {
         set.rules.kinds()
     }
 
-    fn kind(set: Playing<'a>, message: Message) -> usize {
+    fn kind(set: Playing<'a>, message: &Message) -> usize {
         set.rules.kind(message)
     }
 
@@ -188,14 +188,14 @@ impl<'a, J: Chosen> Protocol for Told<'a, J> {
 }
 
 /// What a node is asked in a state when it gets some work.
-pub(crate) fn lookup_at(node: u32, state: usize, work: Work<Message>) -> Lookup
-    ensures { result ≡ lookup_of_work node state work }
+pub(crate) fn lookup_at(node: u32, state: usize, work: &Work<Message>) -> Lookup
+    ensures { result ≡ lookup_of_work node state work.now }
 {
     match work {
         Work::Wake => Lookup::Wake { node, state },
         Work::Deliver { port, message } => Lookup::Take {
             node,
-            port,
+            port: *port,
             message: message.text,
             state,
         },

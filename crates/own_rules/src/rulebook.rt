@@ -225,8 +225,8 @@ impl Rulebook {
     }
 
     /// The kind of a message.
-    pub(crate) fn kind(&self, message: Message) -> usize
-        ensures { result ≡ kind_among (kinds_of self.now) (text_at (texts_of_book self.now) message.text) }
+    pub(crate) fn kind(&self, message: &Message) -> usize
+        ensures { result ≡ kind_among (kinds_of self.now) (text_at (texts_of_book self.now) message.now.text) }
     {
         self.kind_of(self.text(message.text))
     }

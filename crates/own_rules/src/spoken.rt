@@ -107,7 +107,7 @@ fn row_of(rules: &Rulebook, node: &Node, work: &Work<Message>) -> Word<'static>
             text,
             asleep: _,
             left,
-        } => verdict_word(rules.done(node.ports, left, lookup_at(node.number, text, *work))),
+        } => verdict_word(rules.done(node.ports, left, lookup_at(node.number, text, work))),
         State::Stopped(_) => Word::of(b"stopped"),
     }
 }

@@ -35,7 +35,7 @@ pub fn lay_blocks(alloc: Global, graph: &Graph) -> Result<Blocks, AllocError>
 }
 
 /// A queue without a message for each port, with the place of the one at the far end of its link.
-pub fn empty_queues<M: Copy>(
+pub fn empty_queues<M: Drop>(
     alloc: Global,
     graph: &Graph,
     starts: &[u32],

@@ -6,6 +6,7 @@ ghost use Rattle.peer_network.specs.Events.{event_node};
 ghost use Rattle.peer_index.specs.Places.{IsPlaced};
 ghost use Rattle.peer_channels.specs.Queue.{pushed, taken, requeued, counted};
 ghost use Rattle.peer_channels.specs.Channels.{HasQueue, first_queue, IsFor, AllEmpty, Changes, KeepsLists, GoOut, HasRoomFor, state_at, queue_at, room_at, total_of, destination_of};
+ghost use Rattle.std.specs.Option.{option_map};
 
 use crate::blocks::{Blocks, empty_queues, lay_blocks};
 use crate::claims::make_room;
@@ -40,7 +41,7 @@ impl<M> Model for Channels<M> {
     ghost invariant = { λ l. IsKept (laid l.starts.items l.queues.items) l.claims.items l.total };
 }
 
-impl<M: Copy> Channels<M> {
+impl<M: Drop> Channels<M> {
     /// An empty queue for each port of each node.
     ///
     /// ```text
@@ -187,20 +188,20 @@ impl<M: Copy> Channels<M> {
     }
 
     /// The first message that waits at a port.
-    pub fn front(&self, v: u32, port: u32) -> Option<M>
+    pub fn first(&self, v: u32, port: u32) -> Option<&M>
         requires { HasQueue self.now v port }
-        ensures { result ≡ slice_get (queue_at self.now v port) 0 }
+        ensures { option_map (λ m. m.now) result ≡ slice_get (queue_at self.now v port) 0 }
     {
-        self.front_from(self.start(v), v, port)
+        self.first_from(self.start(v), v, port)
     }
 
     /// The same, where it is known where the queues of the node begin.
-    pub fn front_from(&self, start: u32, v: u32, port: u32) -> Option<M>
+    pub fn first_from(&self, start: u32, v: u32, port: u32) -> Option<&M>
         requires start { start ≡ first_queue self.now v }
         requires port { HasQueue self.now v port }
-        ensures { result ≡ slice_get (queue_at self.now v port) 0 }
+        ensures { option_map (λ m. m.now) result ≡ slice_get (queue_at self.now v port) 0 }
     {
-        self.queues[start as usize + port as usize].front()
+        self.queues[start as usize + port as usize].first()
     }
 
     /// How many messages wait at a port.
@@ -225,6 +226,25 @@ impl<M: Copy> Channels<M> {
         ensures { result ≡ total_of self.now }
     {
         self.total
+    }
+}
+
+impl<M: Copy> Channels<M> {
+    /// A copy of the first message that waits at a port.
+    pub fn front(&self, v: u32, port: u32) -> Option<M>
+        requires { HasQueue self.now v port }
+        ensures { result ≡ slice_get (queue_at self.now v port) 0 }
+    {
+        self.first(v, port).copied()
+    }
+
+    /// The same, where it is known where the queues of the node begin.
+    pub fn front_from(&self, start: u32, v: u32, port: u32) -> Option<M>
+        requires start { start ≡ first_queue self.now v }
+        requires port { HasQueue self.now v port }
+        ensures { result ≡ slice_get (queue_at self.now v port) 0 }
+    {
+        self.first_from(start, v, port).copied()
     }
 }
 

@@ -8,7 +8,7 @@ use crate::queue::Queue;
 use std::alloc::{AllocError, Global};
 
 /// Makes room at the far ends of the ports of a node, whose queues begin at `start`, for what goes out on them.
-pub fn make_room<M: Copy>(
+pub fn make_room<M: Drop>(
     alloc: Global,
     start: usize,
     queues: &mut [Queue<M>],
@@ -30,7 +30,7 @@ pub fn make_room<M: Copy>(
 }
 
 /// The claims say afterwards, for each port, how many messages have been seen to go out on it.
-fn claim<M: Copy>(
+fn claim<M: Drop>(
     alloc: Global,
     start: usize,
     queues: &mut [Queue<M>],
@@ -56,7 +56,7 @@ fn claim<M: Copy>(
 }
 
 /// Takes the claims back.
-fn unclaim<M: Copy>(claims: &mut [usize], sends: &[(u32, M)])
+fn unclaim<M: Drop>(claims: &mut [usize], sends: &[(u32, M)])
     requires ports { All (λ (s : ℕ × M). s.0 < length claims.old) sends.now }
     requires only { ClaimsOnly sends.now claims.old }
     ensures { (k : ℕ) → slice_index claims.new k ≡ 0 }

@@ -21,7 +21,7 @@ pub(crate) enum Line<M> {
 }
 
 /// No message, and room for `additional`.
-pub(crate) fn room_behind<M: Copy>(
+pub(crate) fn room_behind<M: Drop>(
     alloc: Global,
     additional: usize,
 ) -> Result<Box<VecDeque<M>>, AllocError>

@@ -1,5 +1,6 @@
 //! One list of messages.
 ghost use Rattle.std.specs.Prelude.{◌≡◌, ℕ, ◌+◌, ◌-◌, ◌<◌, ◌≤◌, ◌^◌, [], length, slice_get, OnOk, OnErr};
+ghost use Rattle.std.specs.Option.{option_map};
 ghost use Rattle.peer_channels.specs.Queue.{QueueState, Slot, pushed, taken, requeued};
 
 use crate::line::{Line, room_behind};
@@ -29,7 +30,7 @@ impl<M> Model for Queue<M> {
     ghost invariant = { λ q. IsLine q.line };
 }
 
-impl<M: Copy> Queue<M> {
+impl<M: Drop> Queue<M> {
     /// No message, and room for one. The queue at the far end stands at `far`.
     pub fn new(far: u32) -> Queue<M>
         requires { far < 2 ^ 24 }
@@ -65,11 +66,11 @@ impl<M: Copy> Queue<M> {
     }
 
     /// The first message.
-    pub fn front(&self) -> Option<M>
-        ensures { result ≡ slice_get self.now.queue.list 0 }
+    pub fn first(&self) -> Option<&M>
+        ensures { option_map (λ m. m.now) result ≡ slice_get self.now.queue.list 0 }
     {
         match &self.line {
-            Line::OneBeside(_, first, _) | Line::One(_, first) => Some(*first),
+            Line::OneBeside(_, first, _) | Line::One(_, first) => Some(first),
             _ => None,
         }
     }
@@ -84,11 +85,13 @@ impl<M: Copy> Queue<M> {
     {
         match &mut self.line {
             Line::OneBeside(_, _, rest) => rest.reserve(additional)?,
-            Line::One(far, first) => {
+            Line::One(far, _) => {
                 let far = *far;
-                let first = *first;
                 if additional > 0 {
-                    self.line = Line::OneBeside(far, first, room_behind(alloc, additional)?);
+                    let rest = room_behind(alloc, additional)?;
+                    if let Line::One(_, first) = mem::replace(&mut self.line, Line::Empty(far)) {
+                        self.line = Line::OneBeside(far, first, rest);
+                    }
                 }
             }
             Line::EmptyBeside(_, rest) => {
@@ -137,22 +140,23 @@ impl<M: Copy> Queue<M> {
         match &mut self.line {
             Line::OneBeside(far, first, rest) => {
                 let far = *far;
-                let taken = *first;
                 if let Some(second) = rest.pop_front() {
-                    *first = second;
-                } else if let Line::OneBeside(_, _, rest) = mem::replace(
-                    &mut self.line,
-                    Line::Empty(far),
-                ) {
-                    self.line = Line::EmptyBeside(far, rest);
+                    return Some(mem::replace(first, second));
                 }
-                Some(taken)
+                match mem::replace(&mut self.line, Line::Empty(far)) {
+                    Line::OneBeside(_, first, rest) => {
+                        self.line = Line::EmptyBeside(far, rest);
+                        Some(first)
+                    }
+                    _ => None,
+                }
             }
-            Line::One(far, first) => {
+            Line::One(far, _) => {
                 let far = *far;
-                let taken = *first;
-                self.line = Line::Empty(far);
-                Some(taken)
+                match mem::replace(&mut self.line, Line::Empty(far)) {
+                    Line::One(_, first) => Some(first),
+                    _ => None,
+                }
             }
             _ => None,
         }
@@ -165,8 +169,7 @@ impl<M: Copy> Queue<M> {
     {
         if let Line::OneBeside(_, first, rest) = &mut self.line {
             if let Some(second) = rest.pop_front() {
-                rest.push_back_reserved(*first);
-                *first = second;
+                rest.push_back_reserved(mem::replace(first, second));
             }
         }
     }

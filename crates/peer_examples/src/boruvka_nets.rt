@@ -52,7 +52,7 @@ fn assert_marks(rt: &impl Abort, net: &Net<Boruvka>, v: u32, marks: &[Mark]) {
 fn assert_front(rt: &impl Abort, net: &Net<Boruvka>, v: u32, port: u32, message: Message) {
     assert!(rt; v >= 1 && v <= net.graph().nodes());
     assert!(rt; (port as usize) < net.graph().ports(v).len());
-    assert_eq!(rt; net.front(v, port), Some(message));
+    assert_eq!(rt; net.front(v, port).copied(), Some(message));
 }
 
 const BRANCH: [Mark; 1] = [Mark::Branch];

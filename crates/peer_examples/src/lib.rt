@@ -1,4 +1,4 @@
-//! Worked examples of protocols on the second small stack, as tests alone: the echo wave, knocking and Borůvka in step, played
+//! Worked examples of protocols on the second small stack, as tests alone: the echo wave, knocking, Gather and Borůvka in step, played
 //! event by event, run by a seed, measured, explored and told line by line; and the texts of stored runs, which name their
 //! protocol.
 //!
@@ -29,6 +29,8 @@ mod echo_lines;
 mod echo_nets;
 #[cfg(test)]
 mod echo_runs;
+#[cfg(test)]
+mod gather_nets;
 #[cfg(test)]
 mod knock_nets;
 #[cfg(test)]

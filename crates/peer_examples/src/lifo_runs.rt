@@ -8,6 +8,7 @@ use echo::protocol::Echo;
 use ghs_test_graphs::graphs::{PATH_OF_THREE, TRIANGLE, TWO_PAIRS_AND_NODE};
 use peer_machine::ends::Ends;
 use peer_machine::event::Event;
+use peer_machine::fixed::Fixed;
 use peer_network::wake_set::WakeSet;
 use peer_picking::lifo_run::run_lifo;
 use peer_runs::fault::RunFault;
@@ -17,7 +18,7 @@ use std::alloc::Global;
 use std::process::Abort;
 
 /// The run by a schedule of the graph of a text, which has these events and stops so.
-fn assert_run<P: Ends>(
+fn assert_run<P: Ends + Fixed>(
     rt: &impl Abort,
     alloc: Global,
     text: &str,

@@ -8,6 +8,7 @@ use echo::protocol::Echo;
 use ghs_test_graphs::graphs::TRIANGLE;
 use peer_machine::ends::Ends;
 use peer_machine::event::Event;
+use peer_machine::fixed::Fixed;
 use peer_network::wake_set::WakeSet;
 use peer_picking::rounds_run::run_rounds;
 use peer_runs::fault::RunFault;
@@ -17,7 +18,7 @@ use std::alloc::Global;
 use std::process::Abort;
 
 /// The run of a seed by rounds, within some turns, on the triangle: it has these events and so many rounds, and stops so.
-fn assert_run<P: Ends>(
+fn assert_run<P: Ends + Fixed>(
     rt: &impl Abort,
     alloc: Global,
     wake: WakeSet,

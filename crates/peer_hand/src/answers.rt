@@ -10,6 +10,7 @@ use crate::handing::hand_over;
 use crate::led::led;
 use crate::seen::seen;
 use peer_machine::ends::Ends;
+use peer_machine::fixed::Fixed;
 use peer_network::wake_set::WakeSet;
 use peer_runs::world::World;
 use peer_trace::protocol::Protocol;
@@ -25,7 +26,7 @@ use std::alloc::Global;
 /// let count = hand_seen::<Echo>(alloc, Protocol::Echo, WakeSet::All, b"p sp 2 1\na 1 2 5", b"trace echo 0", &mut out);
 /// // where count is at most out.len(), out[..count] is the answer, whose last lines are `{"may":[1]}` and `{"may":[2]}`
 /// ```
-pub fn hand_seen<P: Ends + Viewed>(
+pub fn hand_seen<P: Ends + Fixed + Viewed>(
     alloc: Global,
     protocol: Protocol,
     wake: WakeSet,
@@ -49,7 +50,7 @@ pub fn hand_seen<P: Ends + Viewed>(
 /// let count = hand_run::<Boruvka>(alloc, Protocol::Boruvka, WakeSet::All, graph, b"trace boruvka 0", 7, &mut out);
 /// // a trace's text, that of `ghs run --protocol boruvka --seed 7 --print trace`
 /// ```
-pub fn hand_run<P: Ends>(
+pub fn hand_run<P: Ends + Fixed>(
     alloc: Global,
     protocol: Protocol,
     wake: WakeSet,
@@ -68,7 +69,7 @@ pub fn hand_run<P: Ends>(
 }
 
 /// What a page is told of the world to which two texts lead.
-fn seen_of<P: Ends + Viewed>(
+fn seen_of<P: Ends + Fixed + Viewed>(
     alloc: Global,
     protocol: Protocol,
     wake: WakeSet,
@@ -83,7 +84,7 @@ fn seen_of<P: Ends + Viewed>(
 }
 
 /// The text of the run that goes on from the world to which two texts lead.
-fn run_of<P: Ends>(
+fn run_of<P: Ends + Fixed>(
     alloc: Global,
     protocol: Protocol,
     wake: WakeSet,

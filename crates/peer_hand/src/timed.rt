@@ -8,6 +8,7 @@ use crate::handing::hand_over;
 use crate::texts::graph_of;
 use ghs_lines::numbers::put_number;
 use peer_machine::ends::Ends;
+use peer_machine::fixed::Fixed;
 use peer_network::event::Event;
 use peer_network::wake_set::WakeSet;
 use peer_picking::rounds_run::run_rounds;
@@ -28,7 +29,7 @@ use std::alloc::{AllocError, Global};
 /// let count = hand_timed::<Echo>(alloc, Protocol::Echo, WakeSet::First, b"p sp 3 2\na 1 2 5\na 2 3 7", 7, &mut out);
 /// // {"rounds":4} and behind it the text of `ghs run --protocol echo --schedule rounds --wake first --seed 7 --print trace`
 /// ```
-pub fn hand_timed<P: Ends>(
+pub fn hand_timed<P: Ends + Fixed>(
     alloc: Global,
     protocol: Protocol,
     wake: WakeSet,
@@ -46,7 +47,7 @@ pub fn hand_timed<P: Ends>(
 }
 
 /// The rounds and the text of the run of a graph's text that a seed picks by rounds.
-fn timed_of<P: Ends>(
+fn timed_of<P: Ends + Fixed>(
     alloc: Global,
     protocol: Protocol,
     wake: WakeSet,

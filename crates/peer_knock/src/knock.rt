@@ -88,9 +88,9 @@ impl<J: Chosen> Protocol for Knocking<J> {
         }
     }
 
-    fn defers(patient: bool, node: &Node, work: Work<Message>) -> bool
+    fn defers(patient: bool, node: &Node, work: &Work<Message>) -> bool
         requires { patient ≡ J.patient }
-        ensures { result ≡ (knocking J.patient).defers node.now work }
+        ensures { result ≡ (knocking J.patient).defers node.now work.now }
     {
         match work {
             Work::Wake => false,
@@ -106,7 +106,7 @@ impl<J: Chosen> Protocol for Knocking<J> {
         1
     }
 
-    fn kind(_patient: bool, message: Message) -> usize {
+    fn kind(_patient: bool, message: &Message) -> usize {
         match message {
             Message::Knock => 0,
         }

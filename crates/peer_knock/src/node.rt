@@ -1,9 +1,16 @@
 //! A node of knocking, its one message, and how it changes.
+use peer_machine::again::Again;
 
 /// A message.
 #[derive(Clone, Copy, Debug, PartialEq, Eq)]
 pub enum Message {
     Knock,
+}
+
+impl Again for Message {
+    fn again(&self) -> Message {
+        *self
+    }
 }
 
 /// Whether the node is awake after the reaction.

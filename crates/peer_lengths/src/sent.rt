@@ -50,7 +50,7 @@ pub fn measure<P: Measured>(scale: P::Scale, sends: &[(u32, P::Message)]) -> Sen
     let mut bits: u128 = 0;
     let mut longest: u32 = 0;
     for i in 0..sends.len() {
-        let (_, message) = sends[i];
+        let (_, message) = &sends[i];
         let length = P::bits(scale, message);
         bits += length as u128;
         longest = longest.max(length);

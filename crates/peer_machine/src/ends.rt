@@ -1,12 +1,12 @@
 //! Protocols whose runs end in silence, and those that find links.
-use crate::fixed::Fixed;
+use crate::protocol::Protocol;
 
 /// A protocol whose runs come to an end: a run has ended just where no message waits and nobody sleeps.
 ///
 /// ```text
 /// impl Ends for Boruvka { .. }   // its end: with each node one is joined that has halted
 /// ```
-pub trait Ends: Fixed {
+pub trait Ends: Protocol {
     ghost use Rattle.ghs_graph.specs.Graph.{Shape};
     ghost use Rattle.peer_machine.specs.Ends.{SilenceIsEnd, SilenceWakesAll};
     ghost use Rattle.peer_machine.specs.Net.{Net};

@@ -10,12 +10,14 @@
 //!
 //! A `Protocol` has its rules as a ghost member, and as laws that each lawful event has a rule, and that what is sent is
 //! within a bound. Its rules may depend on what only a running program knows, its `Setting`; where they don't, it is `Fixed`.
-//! One whose messages have lengths is `Measured` (`peer_lengths`); one all of whose runs can be explored is `Explorable`,
-//! and if none of them goes on for ever, `Finite` (`peer_explore`); one whose runs end in silence with all awake is `Ends`, and if its nodes mark the links that it finds,
-//! `FindsTree` (`peer_report`). The machine mirrors that of `ghs_protocol`, over the same networks and events (`peer_network`). Read
-//! `specs/Rules.antt` and `specs/Net.antt` first.
+//! Its messages can be had once more at no cost (`Again`), and one that carries a list refers to it. One whose messages have
+//! lengths is `Measured` (`peer_lengths`); one all of whose runs can be explored is `Explorable`, and `Finite` if none goes on
+//! for ever (`peer_explore`); one whose runs end in silence with all awake is `Ends`, and if its nodes mark the links that it
+//! finds, `FindsTree` (`peer_report`). The machine mirrors that of `ghs_protocol`, over the same networks and events
+//! (`peer_network`). Read `specs/Rules.antt` and `specs/Net.antt` first.
 #![tactic(auto)]
 
+pub mod again;
 pub mod ends;
 pub mod explorable;
 pub mod fixed;

@@ -9,7 +9,7 @@ use ghs_graph::graph::Graph;
 ///
 /// ```text
 /// let widths = Boruvka::scale_of((), &graph);   // O(E), once for a graph
-/// let bits = Boruvka::bits(widths, Message::ChangeRoot);
+/// let bits = Boruvka::bits(widths, &Message::ChangeRoot);
 /// // 3, whatever the graph
 /// ```
 pub trait Measured: Protocol {
@@ -25,6 +25,6 @@ pub trait Measured: Protocol {
         ensures { is_of graph.now result };
 
     /// How many bits a message has in the network of a graph of this scale. O(1).
-    fn bits(scale: Self::Scale, message: Self::Message) -> u32
-        ensures { (g : Shape) → is_of g scale → result ≡ Self.rules.bits g message };
+    fn bits(scale: Self::Scale, message: &Self::Message) -> u32
+        ensures { (g : Shape) → is_of g scale → result ≡ Self.rules.bits g message.now };
 }

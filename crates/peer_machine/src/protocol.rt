@@ -1,4 +1,5 @@
 //! A protocol as a program.
+use crate::again::Again;
 use crate::work::{Answer, Work};
 use ghs_graph::graph::Graph;
 use ghs_graph::port::Port;
@@ -19,8 +20,8 @@ pub trait Protocol {
     /// A node's state.
     type Node: Drop;
 
-    /// A message.
-    type Message: Copy;
+    /// A message. One that carries a list holds a reference to where the setting keeps it.
+    type Message: Again;
 
     /// How a node changes in one reaction.
     type Change: Drop;
@@ -69,9 +70,9 @@ pub trait Protocol {
 
     /// Whether a node defers the message that the work brings: then it goes to the end of its queue. A protocol that never
     /// does answers `false`.
-    fn defers(setting: Self::Setting, node: &Self::Node, work: Work<Self::Message>) -> bool
+    fn defers(setting: Self::Setting, node: &Self::Node, work: &Work<Self::Message>) -> bool
         requires { goes_by setting }
-        ensures { result ≡ rules.defers node.now work };
+        ensures { result ≡ rules.defers node.now work.now };
 
     /// The node changes. Takes no memory.
     fn apply(node: &mut Self::Node, change: &Self::Change)
@@ -83,9 +84,9 @@ pub trait Protocol {
         ensures { result ≡ rules.kinds };
 
     /// The kind of a message, from 0 on.
-    fn kind(setting: Self::Setting, message: Self::Message) -> usize
+    fn kind(setting: Self::Setting, message: &Self::Message) -> usize
         requires { goes_by setting }
-        ensures { result ≡ rules.kind_of message };
+        ensures { result ≡ rules.kind_of message.now };
 
     /// How many messages a run of the graph sends at most. O(1).
     fn bound_of(setting: Self::Setting, graph: &Graph) -> u64

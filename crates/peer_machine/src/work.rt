@@ -1,7 +1,7 @@
 //! What a node may be told, and what it answers.
 
 /// One piece of work: to wake by itself, or a message that has come in at a port.
-#[derive(Clone, Copy, Debug)]
+#[derive(Debug, Drop)]
 pub enum Work<M> {
     Wake,
     Deliver { port: u32, message: M },

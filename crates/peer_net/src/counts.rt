@@ -38,7 +38,7 @@ pub fn count_sends<P: Protocol>(
     ensures { CountsSends P.rules sends.now counts.old counts.new }
 {
     for i in 0..sends.len() {
-        let (_, message) = sends[i];
+        let (_, message) = &sends[i];
         counts.sent[P::kind(setting, message)] += 1;
     }
 }
@@ -50,7 +50,7 @@ pub fn count_take<P: Protocol>(setting: P::Setting, counts: &mut Counts, message
     requires fits { (k : ℕ) → k < P.rules.kinds → slice_index counts.old.consumed.items k + 1 < 2 ^ 64 }
     ensures { CountsTake P.rules false message counts.old counts.new }
 {
-    counts.consumed[P::kind(setting, message)] += 1;
+    counts.consumed[P::kind(setting, &message)] += 1;
 }
 
 /// Counts a message that is deferred.

@@ -1,4 +1,5 @@
 //! The net of one thread.
+ghost use Rattle.std.specs.Option.{option_map};
 ghost use Rattle.std.specs.Prelude.{◌≡◌, ℕ, ◌≤◌, [], ◌∷◌, ◌++◌, length, IfOk, IfErr, OnOk, OnErr, IsSome, IsTrue, Some, ◌↔◌, slice_get};
 ghost use Rattle.ghs_graph.specs.Graph.{IsGraph};
 ghost use Rattle.peer_network.specs.Network.{network_of, At};
@@ -15,6 +16,7 @@ use crate::sending::{send_all, take_in};
 use ghs_graph::graph::Graph;
 use peer_channels::channels::Channels;
 use peer_index::placed::Placed;
+use peer_machine::again::Again;
 use peer_machine::event::Event;
 use peer_machine::protocol::Protocol;
 use peer_machine::work::Work;
@@ -92,7 +94,7 @@ impl<P: Protocol> Net<P> {
         match event {
             Event::Wake(v) => self.has_node(v) && P::is_asleep(&self.nodes[v as usize - 1]),
             Event::Take(v, port) => self.has_port(v, port)
-                && self.channels.front(v, port).is_some(),
+                && self.channels.first(v, port).is_some(),
         }
     }
 
@@ -105,7 +107,7 @@ impl<P: Protocol> Net<P> {
             Event::Wake(v) => P::is_asleep(&self.nodes[v as usize - 1]),
             Event::Take(v, port) => self
                 .channels
-                .front_from(self.channels.start_of(placed), v, port)
+                .first_from(self.channels.start_of(placed), v, port)
                 .is_some(),
         }
     }
@@ -120,11 +122,11 @@ impl<P: Protocol> Net<P> {
     }
 
     /// The first message that waits at a port.
-    pub fn front(&self, v: u32, port: u32) -> Option<P::Message>
+    pub fn front(&self, v: u32, port: u32) -> Option<&P::Message>
         requires { At (network self.now) v port }
-        ensures { result ≡ slice_get ((net_of P.rules self.now).queue v port) 0 }
+        ensures { option_map (λ m. m.now) result ≡ slice_get ((net_of P.rules self.now).queue v port) 0 }
     {
-        self.channels.front(v, port)
+        self.channels.first(v, port)
     }
 
     /// The events that were played.
@@ -181,7 +183,7 @@ impl<P: Protocol> Net<P> {
             Event::Take(v, _) => P::defers(
                 self.setting,
                 self.node(v),
-                self.work_placed(self.placed(event)),
+                &self.work_placed(self.placed(event)),
             ),
         }
     }
@@ -225,7 +227,7 @@ impl<P: Protocol> Net<P> {
         let start = self.channels.start_of(placed);
         let work = self.work_placed(placed);
         let node = &self.nodes[at];
-        let later = P::defers(self.setting, node, work);
+        let later = P::defers(self.setting, node, &work);
         let answer = P::react(alloc, self.setting, node, work)?;
         self.trace.reserve(1)?;
         self.channels.reserve_from(start, v, &answer.sends)?;
@@ -268,7 +270,7 @@ impl<P: Protocol> Net<P> {
             Event::Wake(_) => Work::Wake,
             Event::Take(v, port) => Work::Deliver {
                 port,
-                message: self.channels.front_from(start, v, port).unwrap(),
+                message: self.channels.first_from(start, v, port).unwrap().again(),
             },
         }
     }

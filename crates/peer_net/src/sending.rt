@@ -9,11 +9,12 @@ ghost use Rattle.peer_net.specs.Taking.{Consumes, WaitsAt, TakesIn};
 
 use crate::counts::{Counts, count_deferred, count_take};
 use peer_channels::channels::Channels;
+use peer_machine::again::Again;
 use peer_machine::event::Event;
 use peer_machine::protocol::Protocol;
 
 /// Sends messages out from node `v`, whose queues begin at `start`, in their order. There is room for them at the far ends.
-pub fn send_all<M: Copy>(channels: &mut Channels<M>, start: u32, v: u32, sends: &[(u32, M)])
+pub fn send_all<M: Again>(channels: &mut Channels<M>, start: u32, v: u32, sends: &[(u32, M)])
     requires queues { IsForSome channels.old }
     requires start { start ≡ first_queue channels.old v }
     requires ports { GoOut channels.old v sends.now }
@@ -24,7 +25,7 @@ pub fn send_all<M: Copy>(channels: &mut Channels<M>, start: u32, v: u32, sends: 
     ensures total { total_of channels.new ≡ total_of channels.old + length sends.now }
 {
     for (port, message) in sends {
-        channels.send_from(start, v, *port, *message);
+        channels.send_from(start, v, *port, message.again());
     }
 }
 

@@ -304,7 +304,7 @@ function readLine(o) {
   else if ('protocol' in o) adopt(o);
   else if ('ghs' in o) G = o;
 }
-// how many bits a message has: those of its kind, and of its level and its key
+// how many bits a message has: those of its kind, and of what it carries
 const width = n => n.toString(2).length;
 let widths;
 function measure() {
@@ -319,8 +319,8 @@ function ownLength(m) {
   if (types) types.split(',').forEach((t, i) => { const x = list[i] ?? ''; sum += t === 'bit' ? 1 : t === 'text' ? 8 * x.length : t === 'key?' ? 1 + (x === '-' ? 0 : widths.key) : t === 'keys' ? widths.count + (x.split(':').length - 1) * widths.key : widths[t === 'node' ? 'number' : t] ?? +t; });
   return Math.min(sum, 2 ** 32 - 1);
 }
-const lengthOf = m => P.own ? ownLength(m) : BITS[m.kind] + (m.level === undefined ? 0 : widths.level) + (m.key ? widths.key : 0);
-const message = (m, born, from, to, at) => ({ kind: m.kind, level: m.level, key: m.key, phase: m.phase, values: m.values, bits: lengthOf(m), born, from, to, at, takes: NOTHING, backs: 0, done: 0, number: 0 });
+const lengthOf = m => P.own ? ownLength(m) : BITS[m.kind] + (m.level === undefined ? 0 : widths.level) + (m.key ? widths.key : 0) + (m.wave ? widths.number : 0) + (m.links ? widths.count + m.links.length * widths.key : 0);
+const message = (m, born, from, to, at) => ({ kind: m.kind, level: m.level, key: m.key, phase: m.phase, wave: m.wave, links: m.links, values: m.values, bits: lengthOf(m), born, from, to, at, takes: NOTHING, backs: 0, done: 0, number: 0 });
 
 // ---- one step on, one step back: every value is one that the step carries; what it replaces is kept
 let at, undo = [];
@@ -964,7 +964,7 @@ function drawTime() {
 
 // ---- words and tables
 const cap = x => x[0].toUpperCase() + x.slice(1);
-const words = m => { const k = P.kinds[KIND[m.kind]]; return k.name + (m.values ? '(' + m.values + ')' : k.has.length ? '(' + k.has.map(x => x === 'key' ? m.key ?? k.none[0] : value(x, m[x])).join(', ') + ')' : ''); };
+const words = m => { const k = P.kinds[KIND[m.kind]]; return k.name + (m.values ? '(' + m.values + ')' : k.has.length ? '(' + k.has.map(x => x === 'key' ? m.key ?? k.none[0] : x === 'links' ? (m.links[4] ? [...m.links.slice(0, 3), m.links.length - 3 + ' more'] : m.links).join(', ') : value(x, m[x])).join(', ') + ')' : ''); };
 const value = (x, y) => y === null || y === undefined ? '-' : Array.isArray(y) ? y[0] + ': ' + y[1] : x === 'phase' ? PHASE[y].name : x === 'mark' ? MARK[y].name : y === true ? 'yes' : y === false ? 'no' : String(y);
 const letters = () => '<span>' + KINDS.map(k => LETTER[k] + ' ' + NAMES[k]).join(', ') + '</span>';
 const idle = s => s.fate === 'waits' && !s.marks.length && !s.send.length;

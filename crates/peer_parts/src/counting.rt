@@ -14,7 +14,7 @@ pub fn count<P: Protocol>(setting: P::Setting, counts: &mut Vec<u64>, sends: &[(
     ensures { HasCounted P.rules (messages sends.now) counts.old.items counts.new.items }
 {
     for i in 0..sends.len() {
-        let (_, message) = sends[i];
+        let (_, message) = &sends[i];
         counts[P::kind(setting, message)] += 1;
     }
 }

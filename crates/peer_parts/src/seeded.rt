@@ -22,11 +22,12 @@ use std::alloc::{AllocError, Global};
 ///
 /// ```text
 /// let columns = columns_by::<ByRules<Echo>>(alloc, By::Rule, &[])?;
-/// put_seed::<Echo>(alloc, &mut text, Form::Text, b"", By::Rule, &columns, &graph, setup, 7)?;
+/// put_seed::<Echo>(alloc, (), &mut text, Form::Text, b"", By::Rule, &columns, &graph, setup, 7)?;
 /// // the lines of seed 7 of `ghs sweep --protocol echo --by rule`
 /// ```
 pub fn put_seed<P: Ends + FixedWords>(
     alloc: Global,
+    setting: P::Setting,
     text: &mut Vec<u8>,
     form: Form,
     front: &[u8],
@@ -36,17 +37,23 @@ pub fn put_seed<P: Ends + FixedWords>(
     setup: Setup,
     seed: u64,
 ) -> Result<(), AllocError>
+    requires { P.goes_by setting }
     ensures { IfOk result (λ _. (lines : List ℕ) × IsPartedRun P.rules P.words P.has_ended form front.now by columns.now graph.now setup seed lines × (text.new.items ≡ text.old.items ++ lines)) }
 {
     match by {
-        By::Node => put_by_node::<P>(alloc, text, form, front, columns, graph, setup, seed),
+        By::Node => put_by_node::<P>(
+            alloc, setting, text, form, front, columns, graph, setup, seed,
+        ),
         By::Level => Ok(()),
-        By::Rule => put_by_row::<P>(alloc, text, form, front, columns, graph, setup, seed),
+        By::Rule => put_by_row::<P>(
+            alloc, setting, text, form, front, columns, graph, setup, seed,
+        ),
     }
 }
 
 fn put_by_node<P: Ends + FixedWords>(
     alloc: Global,
+    setting: P::Setting,
     text: &mut Vec<u8>,
     form: Form,
     front: &[u8],
@@ -55,12 +62,14 @@ fn put_by_node<P: Ends + FixedWords>(
     setup: Setup,
     seed: u64,
 ) -> Result<(), AllocError>
+    requires { P.goes_by setting }
     ensures { IfOk result (λ _. (lines : List ℕ) × IsPrinted P.rules P.words P.has_ended (λ es. node_lines form front.now seed columns.now (node_parts P.rules P.words graph.now es)) graph.now setup seed lines × (text.new.items ≡ text.old.items ++ lines)) }
 {
-    let mut parts = NodeParts::none::<P>(alloc, P::setting(), graph)?;
+    let mut parts = NodeParts::none::<P>(alloc, setting, graph)?;
     let copy = graph.copy(alloc)?;
     run_followed_by_seed::<P, NodeParts>(
         alloc,
+        setting,
         copy,
         setup.wake,
         setup.schedule_kind,
@@ -73,6 +82,7 @@ fn put_by_node<P: Ends + FixedWords>(
 
 fn put_by_row<P: Ends + FixedWords>(
     alloc: Global,
+    setting: P::Setting,
     text: &mut Vec<u8>,
     form: Form,
     front: &[u8],
@@ -81,12 +91,14 @@ fn put_by_row<P: Ends + FixedWords>(
     setup: Setup,
     seed: u64,
 ) -> Result<(), AllocError>
+    requires { P.goes_by setting }
     ensures { IfOk result (λ _. (lines : List ℕ) × IsPrinted P.rules P.words P.has_ended (λ es. row_lines form front.now seed columns.now (row_parts P.rules P.words graph.now es)) graph.now setup seed lines × (text.new.items ≡ text.old.items ++ lines)) }
 {
     let mut rows = RowParts::none(alloc);
     let copy = graph.copy(alloc)?;
     run_followed_by_seed::<P, RowParts>(
         alloc,
+        setting,
         copy,
         setup.wake,
         setup.schedule_kind,

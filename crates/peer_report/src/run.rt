@@ -32,25 +32,37 @@ pub enum RunEnd {
 /// Refusal: out of memory.
 ///
 /// ```text
-/// let (world, end) = run_by_seed::<Boruvka>(alloc, graph, WakeSet::All, ScheduleKind::Seeded, 7, 1 << 40)?;
+/// let (world, end) = run_by_seed::<Boruvka>(alloc, (), graph, WakeSet::All, ScheduleKind::Seeded, 7, 1 << 40)?;
 /// // end is RunEnd::Ended: with so many turns no run is stopped
 /// ```
 pub fn run_by_seed<P: Ends>(
     alloc: Global,
+    setting: P::Setting,
     graph: Graph,
     wake: WakeSet,
     schedule_kind: ScheduleKind,
     seed: u64,
     turns: u64,
 ) -> Result<(World<P>, RunEnd), AllocError>
+    requires { P.goes_by setting }
     ensures { IfOk result (λ ran. IsRan P.rules P.has_ended schedule_kind seed wake turns graph ran.0 ran.1) }
 {
-    run_followed_by_seed(alloc, graph, wake, schedule_kind, seed, turns, &mut ())
+    run_followed_by_seed(
+        alloc,
+        setting,
+        graph,
+        wake,
+        schedule_kind,
+        seed,
+        turns,
+        &mut (),
+    )
 }
 
 /// The same, while a follower follows the run.
 pub fn run_followed_by_seed<P: Ends, F: Follower<P>>(
     alloc: Global,
+    setting: P::Setting,
     graph: Graph,
     wake: WakeSet,
     schedule_kind: ScheduleKind,
@@ -58,11 +70,12 @@ pub fn run_followed_by_seed<P: Ends, F: Follower<P>>(
     turns: u64,
     kept: &mut F,
 ) -> Result<(World<P>, RunEnd), AllocError>
+    requires setting { P.goes_by setting }
     requires kept { F.is_of graph [] kept.old }
     ensures run { IfOk result (λ ran. IsRan P.rules P.has_ended schedule_kind seed wake turns graph ran.0 ran.1) }
     ensures kept { IfOk result (λ ran. F.is_of ran.0.net.graph ran.0.net.trace kept.new) }
 {
-    let Ok(mut world) = World::<P>::open(alloc, P::setting(), graph, wake) else {
+    let Ok(mut world) = World::<P>::open(alloc, setting, graph, wake) else {
         return Err(AllocError);
     };
     let end = run_on(

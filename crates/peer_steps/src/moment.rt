@@ -8,6 +8,7 @@ ghost use Rattle.peer_steps.specs.Told.{event_far, event_port};
 
 use crate::sent::port_at;
 use ghs_graph::graph::Graph;
+use peer_machine::again::Again;
 use peer_machine::event::Event;
 use peer_machine::work::Work;
 use peer_net::net::Net;
@@ -83,7 +84,10 @@ pub(crate) fn work_of<P: Spoken>(net: &Net<P>, event: Event) -> Work<P::Message>
     match event {
         Event::Wake(_) => Work::Wake,
         Event::Take(v, port) => match net.front(v, port) {
-            Some(message) => Work::Deliver { port, message },
+            Some(message) => Work::Deliver {
+                port,
+                message: message.again(),
+            },
             None => Work::Wake,
         },
     }

@@ -14,6 +14,7 @@ use peer_lengths::laws::law_bits;
 use peer_lengths::lengths::Lengths;
 use peer_lengths::meter::Meter;
 use peer_machine::ends::FindsTree;
+use peer_machine::fixed::Fixed;
 use peer_machine::measured::Measured;
 use peer_net::ledger::in_total;
 use peer_net::net::Net;
@@ -30,7 +31,7 @@ pub struct ByRules<P> {
     protocol: PhantomData<P>,
 }
 
-impl<P: FindsTree + FixedWords + Measured> Swept for ByRules<P> {
+impl<P: FindsTree + Fixed + FixedWords + Measured> Swept for ByRules<P> {
     ghost use Rattle.peer_sweep.specs.Runs.{AreFiguresOf, about_rules};
 
     ghost about = { about_rules P.rules P.words };
@@ -59,14 +60,14 @@ impl<P: FindsTree + FixedWords + Measured> Swept for ByRules<P> {
         setup: Setup,
         seed: u64,
     ) -> Result<Figures, AllocError> {
-        seeded::<P>(alloc, graph, setup, seed)
+        seeded::<P>(alloc, P::setting(), graph, setup, seed)
     }
 
     ghost leave_room = { λ g s seed f are. are.figures.room };
 }
 
-/// Whether a measure is the bound.
-pub(crate) fn is_bound(measure: Measure) -> bool
+/// Whether a measure is the bound, which alone has one value in all runs of a graph that have ended.
+pub fn is_bound(measure: Measure) -> bool
     ensures { result ≡ is_bound measure }
 {
     match measure {
@@ -77,18 +78,27 @@ pub(crate) fn is_bound(measure: Measure) -> bool
 
 /// The figures of the run that a seed picks, from the opening of a graph to its end or to its last turn. Refusal: out of
 /// memory.
-fn seeded<P: FindsTree + FixedWords + Measured>(
+///
+/// ```text
+/// let lists = Bump::new(alloc);
+/// let figures = seeded::<Gather>(alloc, &lists, &graph, setup, 7)?;
+/// // the figures of the run that seed 7 picks, by Gather
+/// ```
+pub fn seeded<P: FindsTree + Measured>(
     alloc: Global,
+    setting: P::Setting,
     graph: &Graph,
     setup: Setup,
     seed: u64,
 ) -> Result<Figures, AllocError>
+    requires { P.goes_by setting }
     ensures { IfOk result (λ f. AreFiguresOf P.rules P.bound P.is_branch P.has_ended graph.now setup seed f) }
 {
     let copy = graph.copy(alloc)?;
-    let mut meter = Meter::<P>::none(alloc, P::setting(), graph)?;
+    let mut meter = Meter::<P>::none(alloc, setting, graph)?;
     let (world, _) = run_followed_by_seed::<P, Meter<P>>(
         alloc,
+        setting,
         copy,
         setup.wake,
         setup.schedule_kind,

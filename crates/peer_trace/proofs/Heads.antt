@@ -12,7 +12,7 @@ use Rattle.peer_trace.specs.Head.{fields_in, has_name, head_fields, first_fields
 use Rattle.peer_trace.specs.Mark.{Mark, mark_behind, marked_by, without_mark}
 use Rattle.peer_trace.specs.Reading.{says}
 use Rattle.peer_trace.specs.declared.protocol.Protocol.{Protocol}
-use Rattle.peer_trace.specs.declared.protocol.Protocol.TheVariants.{Ghs, Boruvka, Echo}
+use Rattle.peer_trace.specs.declared.protocol.Protocol.TheVariants.{Ghs, Boruvka, Echo, Gather}
 use Rattle.peer_trace.proofs.Words.{AreWords, IsWord, fields_are_words}
 
 -- lines without a name
@@ -106,6 +106,7 @@ pub named_head : (protocol : Protocol) (count : List ℕ) (lines : List (List (L
 named_head Ghs count lines = refl
 named_head Boruvka count lines = refl
 named_head Echo count lines = refl
+named_head Gather count lines = refl
 
 -- a head that names a protocol has no mark
 unmarked_behind : (fields : List (List ℕ)) (protocol : Protocol) → named_behind fields ≡ Some protocol → mark_behind fields ≡ None
@@ -151,6 +152,7 @@ pub plain_of-named : (protocol : Protocol) (count : List ℕ) → plain_of (head
 plain_of-named Ghs count = refl
 plain_of-named Boruvka count = refl
 plain_of-named Echo count = refl
+plain_of-named Gather count = refl
 
 pub plain_of-head : (fields : List (List ℕ)) (protocol : Protocol) (count : List ℕ) → fields ≡ head_fields protocol count →
     plain_of fields ≡ codes "trace" ∷ count ∷ []
@@ -165,6 +167,7 @@ pub plain_named : (protocol : Protocol) (count : List ℕ) (lines : List (List (
 plain_named Ghs count lines = refl
 plain_named Boruvka count lines = refl
 plain_named Echo count lines = refl
+plain_named Gather count lines = refl
 
 counted_line : (count after : List ℕ) → IsWord count →
     fields_in (codes "trace " ++ count ++ 10 ∷ after) ≡ (codes "trace" ∷ count ∷ []) ∷ fields_in after

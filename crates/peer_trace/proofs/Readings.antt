@@ -18,7 +18,7 @@ use Rattle.peer_trace.specs.Reading.{HasEventsOf, HasFaultOf, HasOwnEvents, HasO
 use Rattle.peer_trace.specs.declared.fault.StoredFault.{StoredFault}
 use Rattle.peer_trace.specs.declared.fault.StoredFault.TheVariants.{Other, Own, Trace}
 use Rattle.peer_trace.specs.declared.protocol.Protocol.{Protocol}
-use Rattle.peer_trace.specs.declared.protocol.Protocol.TheVariants.{Ghs, Boruvka, Echo}
+use Rattle.peer_trace.specs.declared.protocol.Protocol.TheVariants.{Ghs, Boruvka, Echo, Gather}
 use Rattle.peer_trace.proofs.Heads.{meanings-fields, plain_lines-words, says-plain, says-same, unmarked}
 use Rattle.peer_trace.proofs.Words.{fields_are_words, fields_in-text, text_of}
 
@@ -81,12 +81,19 @@ same_or_not : (protocol other : Protocol) → (protocol ≡ other) ⊎ (protocol
 same_or_not Ghs Ghs = inl refl
 same_or_not Ghs Boruvka = inr (λ e. cc)
 same_or_not Ghs Echo = inr (λ e. cc)
+same_or_not Ghs Gather = inr (λ e. cc)
 same_or_not Boruvka Ghs = inr (λ e. cc)
 same_or_not Boruvka Boruvka = inl refl
 same_or_not Boruvka Echo = inr (λ e. cc)
+same_or_not Boruvka Gather = inr (λ e. cc)
 same_or_not Echo Ghs = inr (λ e. cc)
 same_or_not Echo Boruvka = inr (λ e. cc)
 same_or_not Echo Echo = inl refl
+same_or_not Echo Gather = inr (λ e. cc)
+same_or_not Gather Ghs = inr (λ e. cc)
+same_or_not Gather Boruvka = inr (λ e. cc)
+same_or_not Gather Echo = inr (λ e. cc)
+same_or_not Gather Gather = inl refl
 
 abbrev HasReading : Protocol → List ℕ → Type 0
 HasReading protocol text =

@@ -7,7 +7,7 @@ use Rattle.peer_trace.specs.Head.{mark_in, protocol_in}
 use Rattle.peer_trace.specs.Mark.{marked}
 use Rattle.peer_trace.specs.Reading.{says}
 use Rattle.peer_trace.specs.Text.{own_text, stored_text}
-use Rattle.peer_trace.specs.declared.protocol.Protocol.TheVariants.{Ghs, Boruvka, Echo}
+use Rattle.peer_trace.specs.declared.protocol.Protocol.TheVariants.{Ghs, Boruvka, Echo, Gather}
 
 abbrev line : List ℕ → List ℕ
 line bytes = bytes ++ (10 ∷ [])
@@ -29,6 +29,10 @@ of_echo : stored_text Echo (event.Wake 12 ∷ []) ≡ line (codes "trace echo 1"
 unfolding digits
 of_echo = refl
 
+of_gather : stored_text Gather (event.Wake 12 ∷ []) ≡ line (codes "trace gather 1") ++ line (codes "wake 12")
+unfolding digits
+of_gather = refl
+
 of_a_user : own_text (marked (codes "ring") 4 sum) (event.Wake 12 ∷ []) ≡
     line (codes "trace own ring entries 4 sum " ++ sum ++ codes " 1") ++ line (codes "wake 12")
 unfolding digits
@@ -44,6 +48,9 @@ boruvka_named = refl
 
 echo_named : protocol_in (line (codes "trace echo x")) ≡ Some Echo
 echo_named = refl
+
+gather_named : protocol_in (line (codes "trace gather x")) ≡ Some Gather
+gather_named = refl
 
 none_for_ghs : protocol_in (codes "trace ghs 3") ≡ None
 none_for_ghs = refl

@@ -22,7 +22,7 @@ use Rattle.peer_trace.specs.Text.{named_head_text, own_head_text, own_text, stor
 use Rattle.peer_trace.specs.declared.fault.StoredFault.{StoredFault}
 use Rattle.peer_trace.specs.declared.fault.StoredFault.TheVariants.{Other, Own, Trace}
 use Rattle.peer_trace.specs.declared.protocol.Protocol.{Protocol}
-use Rattle.peer_trace.specs.declared.protocol.Protocol.TheVariants.{Ghs, Boruvka, Echo}
+use Rattle.peer_trace.specs.declared.protocol.Protocol.TheVariants.{Ghs, Boruvka, Echo, Gather}
 use Rattle.peer_trace.proofs.Heads.{meanings-fields, named_head, plain_lines-head, plain_named, plain_of-marked, unmarked}
 use Rattle.peer_trace.proofs.Words.{IsWord}
 
@@ -31,11 +31,13 @@ abbrev head_line : Protocol → ℕ → List ℕ
 head_line Ghs count = codes "trace" ++ 32 ∷ decimal count
 head_line Boruvka count = codes "trace" ++ 32 ∷ (codes "boruvka" ++ 32 ∷ decimal count)
 head_line Echo count = codes "trace" ++ 32 ∷ (codes "echo" ++ 32 ∷ decimal count)
+head_line Gather count = codes "trace" ++ 32 ∷ (codes "gather" ++ 32 ∷ decimal count)
 
 head_text-line : (protocol : Protocol) (count : ℕ) (rest : List ℕ) → named_head_text protocol count ++ rest ≡ head_line protocol count ++ 10 ∷ rest
 head_text-line Ghs count rest = ap (λ (xs : List ℕ). codes "trace " ++ xs) (append_assoc (decimal count) (10 ∷ []) rest)
 head_text-line Boruvka count rest = ap (λ (xs : List ℕ). codes "trace boruvka " ++ xs) (append_assoc (decimal count) (10 ∷ []) rest)
 head_text-line Echo count rest = ap (λ (xs : List ℕ). codes "trace echo " ++ xs) (append_assoc (decimal count) (10 ∷ []) rest)
+head_text-line Gather count rest = ap (λ (xs : List ℕ). codes "trace gather " ++ xs) (append_assoc (decimal count) (10 ∷ []) rest)
 
 module _ (count : ℕ) (small : count < 2 ^ 64) where
   head_line_free : (protocol : Protocol) → has_no_feed (head_line protocol count) ≡ true
@@ -46,6 +48,9 @@ module _ (count : ℕ) (small : count < 2 ^ 64) where
   head_line_free Echo =
       has_no_feed-word (codes "trace") (32 ∷ (codes "echo" ++ 32 ∷ decimal count)) refl
       (has_no_feed-word (codes "echo") (32 ∷ decimal count) refl (has_no_feed-last (decimal count) (decimal_plain count small)))
+  head_line_free Gather =
+      has_no_feed-word (codes "trace") (32 ∷ (codes "gather" ++ 32 ∷ decimal count)) refl
+      (has_no_feed-word (codes "gather") (32 ∷ decimal count) refl (has_no_feed-last (decimal count) (decimal_plain count small)))
 
   last_field : fields_of (decimal count) ≡ decimal count ∷ []
   last_field = fields_of-last (decimal count) (decimal_nonempty count small) (decimal_plain count small)
@@ -60,6 +65,10 @@ module _ (count : ℕ) (small : count < 2 ^ 64) where
       fields_of-word (codes "trace") (codes "echo" ++ 32 ∷ decimal count) (omega arith) refl
       ∙ ap (λ fs. codes "trace" ∷ fs) (fields_of-word (codes "echo") (decimal count) (omega arith) refl
       ∙ ap (λ fs. codes "echo" ∷ fs) last_field)
+  fields_of-head_line Gather =
+      fields_of-word (codes "trace") (codes "gather" ++ 32 ∷ decimal count) (omega arith) refl
+      ∙ ap (λ fs. codes "trace" ∷ fs) (fields_of-word (codes "gather") (decimal count) (omega arith) refl
+      ∙ ap (λ fs. codes "gather" ∷ fs) last_field)
 
   fields_in-head : (protocol : Protocol) (rest : List ℕ) →
       fields_in (named_head_text protocol count ++ rest) ≡ head_fields protocol (decimal count) ∷ fields_in rest

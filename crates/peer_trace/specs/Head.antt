@@ -6,7 +6,7 @@ use Rattle.ghs_lines.specs.Lines.{lines_of}
 use Rattle.peer_trace.specs.Mark.{Mark, marked_by, without_mark}
 use Rattle.peer_trace.specs.Protocol.{is_in_heads, name_of}
 use Rattle.peer_trace.specs.declared.protocol.Protocol.{Protocol}
-use Rattle.peer_trace.specs.declared.protocol.Protocol.TheVariants.{Ghs, Boruvka, Echo}
+use Rattle.peer_trace.specs.declared.protocol.Protocol.TheVariants.{Ghs, Boruvka, Echo, Gather}
 
 -- the fields of a head: `trace COUNT` of GHS, and of another protocol its name between the two
 abbrev pub head_fields : Protocol → List ℕ → List (List ℕ)
@@ -14,7 +14,10 @@ head_fields protocol count = codes "trace" ∷ cond (is_in_heads protocol) (name
 
 -- the protocol that a head names so
 abbrev pub named_so : List ℕ → Option Protocol
-named_so name = cond (bytes_eq name (name_of Boruvka)) (Some Boruvka) (cond (bytes_eq name (name_of Echo)) (Some Echo) None)
+named_so name =
+    cond (bytes_eq name (name_of Boruvka)) (Some Boruvka)
+    (cond (bytes_eq name (name_of Echo)) (Some Echo)
+    (cond (bytes_eq name (name_of Gather)) (Some Gather) None))
 
 -- the protocol that the fields behind a `trace` name
 abbrev pub named_behind : List (List ℕ) → Option Protocol

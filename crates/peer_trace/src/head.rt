@@ -104,6 +104,7 @@ fn named_so(name: &[u8]) -> Option<Protocol>
     match name {
         b"boruvka" => Some(Protocol::Boruvka),
         b"echo" => Some(Protocol::Echo),
+        b"gather" => Some(Protocol::Gather),
         _ => None,
     }
 }

@@ -11,6 +11,8 @@ pub enum Protocol {
     Boruvka,
     /// The echo wave.
     Echo,
+    /// Gather.
+    Gather,
 }
 
 impl Protocol {
@@ -29,6 +31,7 @@ impl Protocol {
             Protocol::Ghs => "ghs",
             Protocol::Boruvka => "boruvka",
             Protocol::Echo => "echo",
+            Protocol::Gather => "gather",
         }
     }
 
@@ -45,6 +48,9 @@ impl Protocol {
         if name == "echo" {
             return Some(Protocol::Echo);
         }
+        if name == "gather" {
+            return Some(Protocol::Gather);
+        }
         None
     }
 
@@ -54,7 +60,7 @@ impl Protocol {
     {
         match self {
             Protocol::Ghs => false,
-            Protocol::Boruvka | Protocol::Echo => true,
+            Protocol::Boruvka | Protocol::Echo | Protocol::Gather => true,
         }
     }
 }

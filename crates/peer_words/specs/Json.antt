@@ -4,7 +4,7 @@ use Rattle.std.specs.List.{flat_map}
 use Rattle.ghs_graph.specs.declared.key.Key.{Key}
 use Rattle.peer_words.specs.declared.value.Said.{Said}
 use Rattle.peer_words.specs.declared.value.Value.{Value}
-use Rattle.peer_words.specs.declared.value.Value.TheVariants.{Number, Port, Link, Best, Word, Flag}
+use Rattle.peer_words.specs.declared.value.Value.TheVariants.{Number, Port, Link, Links, Best, Word, Flag}
 use Rattle.peer_words.specs.declared.value.Saying.{Saying}
 use Rattle.peer_words.specs.Text.{key_text}
 
@@ -39,6 +39,17 @@ abbrev pub key_or_null : Option Key → List ℕ
 key_or_null None = null
 key_or_null (Some k) = quoted (key_text k)
 
+-- the keys of links, as a list
+unfoldable pub next_key : Key → List ℕ
+next_key k = codes "," ++ quoted (key_text k)
+
+abbrev pub keys_within : List Key → List ℕ
+keys_within [] = []
+keys_within (k ∷ ks) = quoted (key_text k) ++ flat_map next_key ks
+
+unfoldable pub keys_json : List Key → List ℕ
+keys_json ks = codes "[" ++ keys_within ks ++ codes "]"
+
 -- a port and a word
 unfoldable pub pair : ℕ → List ℕ → List ℕ
 pair p t = codes "[" ++ decimal p ++ codes "," ++ quoted t ++ codes "]"
@@ -55,6 +66,7 @@ abbrev pub value_json : Value → List ℕ
 value_json (Number n) = decimal n
 value_json (Port p) = number_or_null p
 value_json (Link k) = key_or_null k
+value_json (Links ks) = keys_json ks
 value_json (Best b) = best_or_null b
 value_json (Word w) = quoted (escaped w)
 value_json (Flag b) = truth b

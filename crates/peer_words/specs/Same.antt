@@ -29,7 +29,7 @@ abbrev pub is_same_flag : Bool → Bool → Bool
 is_same_flag true b = b
 is_same_flag false b = not b
 
--- of one sort, and the same
+-- of one sort, and the same; lists of links, which messages alone carry, are never called so
 abbrev pub is_same_value : Value → Value → Bool
 is_same_value (Number a) (Number b) = a == b
 is_same_value (Port p) (Port q) = is_same_port p q

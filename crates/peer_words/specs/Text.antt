@@ -4,7 +4,7 @@ use Rattle.std.specs.List.{flat_map}
 use Rattle.ghs_graph.specs.declared.key.Key.{Key}
 use Rattle.peer_words.specs.declared.value.Said.{Said}
 use Rattle.peer_words.specs.declared.value.Value.{Value}
-use Rattle.peer_words.specs.declared.value.Value.TheVariants.{Number, Port, Link, Best, Word, Flag}
+use Rattle.peer_words.specs.declared.value.Value.TheVariants.{Number, Port, Link, Links, Best, Word, Flag}
 use Rattle.peer_words.specs.declared.value.Saying.{Saying}
 
 -- where there is no value
@@ -18,6 +18,14 @@ key_text k = decimal k.weight ++ codes ":" ++ decimal k.a ++ codes "-" ++ decima
 abbrev pub key_or_dash : Option Key → List ℕ
 key_or_dash None = dash
 key_or_dash (Some k) = key_text k
+
+-- the keys of links, between commas
+unfoldable pub next_key : Key → List ℕ
+next_key k = codes "," ++ key_text k
+
+abbrev pub keys_text : List Key → List ℕ
+keys_text [] = dash
+keys_text (k ∷ ks) = key_text k ++ flat_map next_key ks
 
 abbrev pub number_or_dash : Option ℕ → List ℕ
 number_or_dash None = dash
@@ -36,6 +44,7 @@ abbrev pub value_text : Value → List ℕ
 value_text (Number n) = decimal n
 value_text (Port p) = number_or_dash p
 value_text (Link k) = key_or_dash k
+value_text (Links ks) = keys_text ks
 value_text (Best b) = best_text b
 value_text (Word w) = w
 value_text (Flag b) = yes_or_no b

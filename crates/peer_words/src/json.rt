@@ -1,7 +1,7 @@
 //! Values, and messages that carry them, as JSON.
 ghost use Rattle.std.specs.Prelude.{◌≡◌, ◌++◌, codes, decimal, IfOk};
 ghost use Rattle.std.specs.List.{flat_map};
-ghost use Rattle.peer_words.specs.Json.{best_or_null, escape, escaped, key_or_null, member, message_members, number_or_null, pair, quoted, said_member, truth, value_json};
+ghost use Rattle.peer_words.specs.Json.{best_or_null, escape, escaped, key_or_null, keys_json, keys_within, member, message_members, next_key, number_or_null, pair, quoted, said_member, truth, value_json};
 ghost use Rattle.peer_words.specs.Text.{key_text};
 
 use crate::text::put_key;
@@ -18,6 +18,7 @@ pub fn put_json_value(text: &mut Vec<u8>, value: &Value) -> Result<(), AllocErro
         Value::Number(number) => put_number(text, u128::from(*number)),
         Value::Port(port) => put_number_or_null(text, *port),
         Value::Link(key) => put_key_or_null(text, *key),
+        Value::Links(links) => put_keys(text, links.keys()),
         Value::Best(best) => put_best(text, *best),
         Value::Word(word) => put_word(text, word.letters()),
         Value::Flag(flag) => put_truth(text, *flag),
@@ -120,6 +121,39 @@ pub fn put_key_or_null(text: &mut Vec<u8>, key: Option<Key>) -> Result<(), Alloc
         Some(key) => put_quoted_key(text, key),
         None => text.extend_from_slice(b"null"),
     }
+}
+
+/// The keys of links, as a list.
+#[tactic(auto, unfolding(crate::specs::Json::keys_json))]
+fn put_keys(text: &mut Vec<u8>, keys: &[Key]) -> Result<(), AllocError>
+    ensures { IfOk result (λ _. text.new.items ≡ text.old.items ++ keys_json keys.now) }
+{
+    text.extend_from_slice(b"[")?;
+    put_keys_within(text, keys)?;
+    text.extend_from_slice(b"]")
+}
+
+fn put_keys_within(text: &mut Vec<u8>, keys: &[Key]) -> Result<(), AllocError>
+    ensures { IfOk result (λ _. text.new.items ≡ text.old.items ++ keys_within keys.now) }
+{
+    match keys.split_first() {
+        Some((first, others)) => {
+            put_quoted_key(text, *first)?;
+            put_other_keys(text, others)
+        }
+        None => Ok(()),
+    }
+}
+
+#[tactic(auto, unfolding(crate::specs::Json::next_key))]
+fn put_other_keys(text: &mut Vec<u8>, keys: &[Key]) -> Result<(), AllocError>
+    ensures { IfOk result (λ _. text.new.items ≡ text.old.items ++ flat_map next_key keys.now) }
+{
+    for key in keys {
+        text.extend_from_slice(b",")?;
+        put_quoted_key(text, *key)?;
+    }
+    Ok(())
 }
 
 pub fn put_number_or_null(text: &mut Vec<u8>, number: Option<u32>) -> Result<(), AllocError>

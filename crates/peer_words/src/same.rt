@@ -7,7 +7,7 @@ ghost use Rattle.std.specs.Str.{bytes_eq};
 use crate::value::Value;
 use ghs_graph::key::Key;
 
-/// Whether two values are of one sort and say the same.
+/// Whether two values are of one sort and say the same. Lists of links, which messages alone carry, are never called the same.
 ///
 /// ```text
 /// is_same(&Value::Number(3), &Value::Number(3));   // true

@@ -1,7 +1,7 @@
 //! Values, and messages that carry them, as text.
 ghost use Rattle.std.specs.Prelude.{◌≡◌, ◌++◌, IfOk};
 ghost use Rattle.std.specs.List.{flat_map};
-ghost use Rattle.peer_words.specs.Text.{behind_comma, best_text, in_brackets, key_or_dash, key_text, message_text, number_or_dash, value_text, yes_or_no};
+ghost use Rattle.peer_words.specs.Text.{behind_comma, best_text, in_brackets, key_or_dash, key_text, keys_text, message_text, next_key, number_or_dash, value_text, yes_or_no};
 
 use crate::value::{Said, Saying, Value};
 use ghs_graph::key::Key;
@@ -16,6 +16,7 @@ pub fn put_value(text: &mut Vec<u8>, value: &Value) -> Result<(), AllocError>
         Value::Number(number) => put_number(text, u128::from(*number)),
         Value::Port(port) => put_number_or_dash(text, *port),
         Value::Link(key) => put_key_or_dash(text, *key),
+        Value::Links(links) => put_keys(text, links.keys()),
         Value::Best(best) => put_best(text, *best),
         Value::Word(word) => text.extend_from_slice(word.letters()),
         Value::Flag(flag) => put_flag(text, *flag),
@@ -41,6 +42,30 @@ pub fn put_key_or_dash(text: &mut Vec<u8>, key: Option<Key>) -> Result<(), Alloc
         Some(key) => put_key(text, key),
         None => text.extend_from_slice(b"-"),
     }
+}
+
+/// The keys of links, between commas; a dash where there is none.
+fn put_keys(text: &mut Vec<u8>, keys: &[Key]) -> Result<(), AllocError>
+    ensures { IfOk result (λ _. text.new.items ≡ text.old.items ++ keys_text keys.now) }
+{
+    match keys.split_first() {
+        Some((first, others)) => {
+            put_key(text, *first)?;
+            put_other_keys(text, others)
+        }
+        None => text.extend_from_slice(b"-"),
+    }
+}
+
+#[tactic(auto, unfolding(crate::specs::Text::next_key))]
+fn put_other_keys(text: &mut Vec<u8>, keys: &[Key]) -> Result<(), AllocError>
+    ensures { IfOk result (λ _. text.new.items ≡ text.old.items ++ flat_map next_key keys.now) }
+{
+    for key in keys {
+        text.extend_from_slice(b",")?;
+        put_key(text, *key)?;
+    }
+    Ok(())
 }
 
 pub fn put_number_or_dash(text: &mut Vec<u8>, number: Option<u32>) -> Result<(), AllocError>

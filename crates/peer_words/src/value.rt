@@ -41,6 +41,43 @@ impl<'s> Word<'s> {
     }
 }
 
+/// Links, as a text says them: a list of their keys.
+#[derive(Drop)]
+pub struct Links<'s> {
+    keys: &'s [Key],
+}
+
+impl<'s> Model for Links<'s> {
+    ghost use Rattle.std.specs.Prelude.{List};
+    ghost use Rattle.ghs_graph.specs.declared.key.Key.{Key};
+
+    ghost Value = { List Key };
+
+    ghost view = { λ l. l.keys.now };
+}
+
+impl<'s> Links<'s> {
+    /// The links of these keys.
+    pub fn of(keys: &'s [Key]) -> Links<'s>
+        ensures { result ≡ keys.now }
+    {
+        Links { keys }
+    }
+
+    pub fn keys(&self) -> &'s [Key]
+        ensures { result.now ≡ self.now }
+    {
+        self.keys
+    }
+
+    /// The same links.
+    pub fn again(&self) -> Links<'s>
+        ensures { result ≡ self.now }
+    {
+        Links::of(self.keys)
+    }
+}
+
 /// What a text says of a variable, or of what a message carries.
 #[derive(Drop)]
 pub enum Value<'s> {
@@ -48,6 +85,7 @@ pub enum Value<'s> {
     /// A port; none where the variable has none.
     Port(Option<u32>),
     Link(Option<Key>),
+    Links(Links<'s>),
     /// A port, and the key heard of there.
     Best(Option<(u32, Key)>),
     Word(Word<'s>),
@@ -63,6 +101,7 @@ impl<'s> Value<'s> {
             Value::Number(number) => Value::Number(*number),
             Value::Port(port) => Value::Port(*port),
             Value::Link(key) => Value::Link(*key),
+            Value::Links(links) => Value::Links(links.again()),
             Value::Best(best) => Value::Best(*best),
             Value::Word(word) => Value::Word(word.again()),
             Value::Flag(flag) => Value::Flag(*flag),

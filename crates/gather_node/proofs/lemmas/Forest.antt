@@ -24,7 +24,7 @@ not_above_through j k l h i = grind (arith, nat_tests)
 
 -- Whether a list has a key.
 
-same_true : (j k : Key) → is_same j k ≡ true → j ≡ k
+pub same_true : (j k : Key) → is_same j k ≡ true → j ≡ k
 same_true j k h =
     let a = and_parts _ _ h in
     let b = and_parts _ _ a.1 in
@@ -33,7 +33,7 @@ same_true j k h =
     let z : j.b ≡ k.b = eqb-true j.b k.b b.1 in
     λ i. record { weight = x i; a = y i; b = z i }
 
-same_itself : (k : Key) → is_same k k ≡ true
+pub same_itself : (k : Key) → is_same k k ≡ true
 same_itself k = grind (arith, nat_tests)
 
 pub has_in : (ks : List Key) (k : Key) → has ks k ≡ true → Contains ks k

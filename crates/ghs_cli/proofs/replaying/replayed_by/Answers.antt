@@ -8,3 +8,6 @@ returns-in-Boruvka-clause-text c = rw c.in-Boruvka.is c.replayed-in-Boruvka.ensu
 
 pub returns-in-Echo-clause-text : goal.returns-in-Echo-clause-text
 returns-in-Echo-clause-text c = rw c.in-Echo.is c.replayed-in-Echo.ensures.text
+
+pub returns-in-Gather-clause-text : goal.returns-in-Gather-clause-text
+returns-in-Gather-clause-text c = rw c.in-Gather.is c.replayed-in-Gather.ensures.text

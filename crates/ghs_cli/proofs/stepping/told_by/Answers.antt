@@ -8,3 +8,6 @@ returns-in-Boruvka-clause-told g c = rw c.in-Boruvka.is c.told-in-Boruvka.ensure
 
 pub returns-in-Echo-clause-told : goal.returns-in-Echo-clause-told
 returns-in-Echo-clause-told g c = rw c.in-Echo.is c.told-in-Echo.ensures.told
+
+pub returns-in-Gather-clause-told : goal.returns-in-Gather-clause-told
+returns-in-Gather-clause-told g c = rw c.in-Gather.is c.told-in-Gather.ensures.told

@@ -8,3 +8,6 @@ returns-in-Boruvka-clause-text c = rw c.in-Boruvka.is c.stored_viewed-in-Boruvka
 
 pub returns-in-Echo-clause-text : goal.returns-in-Echo-clause-text
 returns-in-Echo-clause-text c = rw c.in-Echo.is c.stored_viewed-in-Echo.ensures.text
+
+pub returns-in-Gather-clause-text : goal.returns-in-Gather-clause-text
+returns-in-Gather-clause-text c = rw c.in-Gather.is c.stored_viewed-in-Gather.ensures.text

@@ -8,3 +8,6 @@ returns-in-Boruvka-clause-text c = rw c.in-Boruvka.is c.viewed-in-Boruvka.ensure
 
 pub returns-in-Echo-clause-text : goal.returns-in-Echo-clause-text
 returns-in-Echo-clause-text c = rw c.in-Echo.is c.viewed-in-Echo.ensures.text
+
+pub returns-in-Gather-clause-text : goal.returns-in-Gather-clause-text
+returns-in-Gather-clause-text c = rw c.in-Gather.is c.viewed-in-Gather.ensures.text

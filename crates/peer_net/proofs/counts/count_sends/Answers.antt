@@ -19,8 +19,8 @@ pub loop-i-preserved : goal.loop-i-preserved
 loop-i-preserved g c =
     let r = g.P.Protocol.rules in
     let sends = c.args.sends.now in
-    let s = slice_index_or sends c.loop-i.i c.index-sends-i.result in
-    let is : s ≡ slice_index_or sends c.loop-i.i s = sym (get_or_default sends c.loop-i.i s c.index-sends-i.result c.loop-i-test.true) in
+    let s = c.index-sends-i.result in
+    let is : s ≡ slice_index_or sends c.loop-i.i s = c.index-sends-i.is in
     let more : take (c.loop-i.i + 1) sends ≡ take c.loop-i.i sends ++ s ∷ [] =
     take_more sends c.loop-i.i s c.loop-i-test.true ∙ ap (λ y. take c.loop-i.i sends ++ y ∷ []) (sym is) in
     rw (more, c.kind.ensures)

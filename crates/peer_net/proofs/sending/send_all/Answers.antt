@@ -37,7 +37,7 @@ pub loop-port-preserved : goal.loop-port-preserved
 loop-port-preserved g c = λ h for.
     let x = c.loop-port-item.result in
     one_sent h c.args.v c.args.sends.now c.loop-port.port-index x x c.args.channels.now c.loop-port.channels _ for c.requires.ports
-    c.loop-port-test.true c.loop-port-item.is (c.loop-port.invariant h for) c.send_from.ensures
+    c.loop-port-test.true c.loop-port-item.is (c.loop-port.invariant h for) (rw c.again.ensures at c.send_from.ensures)
 
 pub returns-clause-queues : goal.returns-clause-queues
 returns-clause-queues g c = λ h waits it.

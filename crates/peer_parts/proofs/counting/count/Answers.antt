@@ -8,9 +8,8 @@ pub overflow_add-index_mut : goal.overflow_add-index_mut
 overflow_add-index_mut g c =
     let r = g.P.Protocol.rules in
     let k = c.kind.result in
-    let x = slice_index_or c.args.sends.now c.loop-i.i c.index-sends-i.result in
-    let is : x ≡ slice_index_or c.args.sends.now c.loop-i.i x =
-    sym (get_or_default c.args.sends.now c.loop-i.i x c.index-sends-i.result c.loop-i-test.true) in
+    let x = c.index-sends-i.result in
+    let is : x ≡ slice_index_or c.args.sends.now c.loop-i.i x = c.index-sends-i.is in
     let lt : k < r.kinds = subst (λ (j : ℕ). j < r.kinds) (sym c.kind.ensures) (g.met.P.Protocol.has_kinds _) in
     let so = c.loop-i.invariant in
     let same = so.kinds in
@@ -26,9 +25,8 @@ pub loop-i-preserved : goal.loop-i-preserved
 loop-i-preserved g c =
     let r = g.P.Protocol.rules in
     let k = c.kind.result in
-    let x = slice_index_or c.args.sends.now c.loop-i.i c.index-sends-i.result in
-    let is : x ≡ slice_index_or c.args.sends.now c.loop-i.i x =
-    sym (get_or_default c.args.sends.now c.loop-i.i x c.index-sends-i.result c.loop-i-test.true) in
+    let x = c.index-sends-i.result in
+    let is : x ≡ slice_index_or c.args.sends.now c.loop-i.i x = c.index-sends-i.is in
     let lt : k < r.kinds = subst (λ (j : ℕ). j < r.kinds) (sym c.kind.ensures) (g.met.P.Protocol.has_kinds _) in
     let so = c.loop-i.invariant in
     let same = so.kinds in

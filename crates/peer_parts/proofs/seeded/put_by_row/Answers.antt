@@ -5,6 +5,7 @@ use Rattle.peer_parts.proofs.seeded.put_by_row.Goals as goal
 
 pub run_followed_by_seed-requires : goal.run_followed_by_seed-requires
 run_followed_by_seed-requires g c = record {
+  setting = c.requires;
   kept = λ l. c.none-rows.ensures.list ∙ sym (none_applied g.P.Protocol.rules g.P.Spoken.words c.in_ok-copy.copy);
 }
 

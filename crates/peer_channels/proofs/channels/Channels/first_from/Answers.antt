@@ -3,7 +3,7 @@ use Rattle.std.specs.List.{slice_get}
 use Rattle.peer_channels.specs.Queue.{QueueState}
 use Rattle.peer_channels.proofs.Places.{port_told}
 use Rattle.peer_channels.proofs.Slots.{slot_stands, slot_state}
-use Rattle.peer_channels.proofs.channels.Channels.front_from.Goals as goal
+use Rattle.peer_channels.proofs.channels.Channels.first_from.Goals as goal
 
 pub index-requires : goal.index-requires
 index-requires g c =
@@ -18,4 +18,4 @@ returns g c =
     slot_state _ _ c.self.invariant.order c.args.v c.args.port _ _ (rw (← c.self.view_is) at c.requires.port)
     (port_told _ c.self.invariant.order c.args.v c.args.port _ (rw (← c.self.view_is) at c.requires.port)
     (rw (← c.self.view_is) at c.requires.start)) c.index.ensures in
-    c.front.ensures ∙ ap (λ (q : QueueState g.row.M.Denot). slice_get q.list 0) state ∙ rw c.self.view_is refl
+    c.first.ensures ∙ ap (λ (q : QueueState g.row.M.Denot). slice_get q.list 0) state ∙ rw c.self.view_is refl

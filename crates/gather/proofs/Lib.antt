@@ -1,0 +1,2 @@
+-- Serves the proof: nothing here has to be believed.
+mod Wording
