@@ -57,7 +57,7 @@ function beginAll() {
     showAll(data.text);
   };
   now.worker.onerror = () => { if (explored === now) endAll(NO_WORKER); };
-  now.worker.postMessage({ bytes: moduleBytes(), graph: graphText, first: wakeFirst ? 1 : 0, by, limits: [...LIMITS, PROTOCOLS[by].states] });
+  now.worker.postMessage({ bytes: moduleCode, graph: graphText, first: wakeFirst ? 1 : 0, by, limits: [...LIMITS, PROTOCOLS[by].states] });
 }
 const capital = text => text[0].toUpperCase() + text.slice(1);
 // the lines that the program prints too: a row each, the least and the greatest sum with the bound, the states; then a run of each row

@@ -1,17 +1,19 @@
 'use strict';
 // ---- the protocols, by their numbers at the module: the name in heads of stored runs, the words of the page, what is
-// found, and the last limit of states that are explored, by time and memory: 24 s and 578 MB by GHS on a busy machine, 11 s and 546 MB
+// found, and the last limit of states that are explored, by time and memory: 24 s and 578 MB by GHS on a busy machine, 11 s and 553 MB
 // by the others, whose states are larger
 const PROTOCOLS = [
   { name: 'ghs', title: 'GHS', by: 'GHS', finds: 'the minimum spanning forest', states: 2000000 },
   { name: 'boruvka', title: 'Bor\u016fvka in step', by: 'Bor\u016fvka in step', finds: 'the minimum spanning forest', states: 1000000 },
   { name: 'echo', title: 'echo wave', by: 'the echo wave', finds: 'a tree for each node that woke by itself', states: 1000000 },
+  { name: 'gather', title: 'Gather', by: 'Gather', finds: 'the minimum spanning forest', states: 1000000 },
 ];
 // ---- the module: the program's own rules, which are proved. The page asks it, and knows no rule of its own.
 const UTF8 = new TextEncoder(), TEXT = new TextDecoder();
 let box = null, room = 0n, roomSize = 1 << 16;
-const moduleBytes = () => Uint8Array.from(atob($('module').textContent.trim()), c => c.charCodeAt(0));
-async function power() { box = (await WebAssembly.instantiate(moduleBytes(), {})).instance.exports; }
+// a worker starts it from the same bytes
+let moduleCode = null;
+async function power() { box = (await WebAssembly.instantiate(moduleCode = await moduleBytes(), {})).instance.exports; }
 function allot(n) {
   const at = box.heap_take(BigInt(Math.max(1, n)));
   if (!at) throw Error('the page is out of memory');

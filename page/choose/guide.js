@@ -422,4 +422,4 @@ async function begin() {
   if (fault) refuse(fault);
   if (!goGuide(hash) && !led && hash.length < 2) $('start').showModal();
 }
-begin().catch(e => { const d = document.createElement('div'); d.className = 'bad'; d.id = 'fault'; d.textContent = 'This page cannot be shown: ' + e.message + '. It needs a browser with WebAssembly, its 64-bit numbers, dialogs and mixed colors: Chromium 111, Firefox 113, Safari 16.2, or later.'; document.body.prepend(d); console.error(e); });
+begin().catch(e => { const d = document.createElement('div'); d.className = 'bad'; d.id = 'fault'; d.textContent = 'This page cannot be shown: ' + e.message + '. It needs a browser with WebAssembly, its 64-bit numbers, deflated data, dialogs and mixed colors: Chromium 111, Firefox 113, Safari 16.4, or later.'; document.body.prepend(d); console.error(e); });

@@ -439,7 +439,7 @@ async function start() {
   $('rules').value = kept('rules') || EXAMPLES.ghs;
   $('graph').value = kept('graph') || NETWORKS.triangle;
   try {
-    await startBox(here.bytes = Uint8Array.from(atob($('module').textContent.trim()), c => c.charCodeAt(0)));
+    await startBox(here.bytes = await moduleBytes());
     readGraph();
   } catch (e) { tell('wrong', '<p>' + escaped(e instanceof Refused ? e.message : 'This browser cannot start the proved code: ' + e.message) + '</p>'); if (!box) return; }
   suit(/class\s+Echo\b/.test($('rules').value) ? 'echo' : 'ghs');

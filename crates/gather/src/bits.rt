@@ -44,6 +44,7 @@ impl<'s> Measured for Gather<'s> {
 fn links_width(graph: &Graph) -> u8
     ensures { result ≡ width_of (length graph.now.keys) }
 {
+    // (its clause says that this is a graph, whose links are fewer than 2^32)
     let _nodes = graph.nodes();
     width(graph.links() as u32)
 }

@@ -16,13 +16,14 @@ use Rattle.ghs_explore.specs.Text as ghs_text
 use Rattle.peer_trace.specs.Text.{stored_text}
 use Rattle.peer_trace.specs.declared.protocol.Protocol.{Protocol}
 use Rattle.peer_trace.specs.declared.protocol.Protocol.TheVariants as protocol
-use Rattle.ghs_outcomes.specs.declared.led.Led.{Led}
-use Rattle.ghs_outcomes.specs.declared.led.Led.TheVariants as led
 use Rattle.boruvka.specs.Words.{words}
 use Rattle.boruvka_node.specs.Boruvka.{boruvka}
 use Rattle.boruvka_protocol.specs.Bound.{bound_of}
 use Rattle.echo.specs.Echo as wave
 use Rattle.echo.specs.Words as wave_words
+use Rattle.gather.specs.Words as gathering
+use Rattle.gather_node.specs.Gather.{gather}
+use Rattle.gather_protocol.specs.Bound as gather_bound
 use Rattle.peer_hand.specs.Texts.{HasNoGraph, IsTextOf}
 use Rattle.peer_hand.specs.Words.{fault_json}
 use Rattle.peer_hand.specs.declared.fault.HandFault.{HandFault}
@@ -68,10 +69,11 @@ module _ {S M : Type 0} (r : Rules S M) (kind : ℕ → List ℕ) (bound : Shape
   }
 
 -- a further protocol has a line here
-abbrev pub explores_by : Led → Explores
-explores_by led.Ghs = by_ghs
-explores_by led.Boruvka = by_any boruvka words.kind bound_of protocol.Boruvka
-explores_by led.Echo = by_any wave.echo wave_words.words.kind wave.bound_of protocol.Echo
+abbrev pub explores_by : Protocol → Explores
+explores_by protocol.Ghs = by_ghs
+explores_by protocol.Boruvka = by_any boruvka words.kind bound_of protocol.Boruvka
+explores_by protocol.Echo = by_any wave.echo wave_words.words.kind wave.bound_of protocol.Echo
+explores_by protocol.Gather = by_any gather gathering.words.kind gather_bound.bound_of protocol.Gather
 
 module _ (x : Explores) (g : Shape) (wake : WakeSet) where
   -- the texts of runs, one that ends as each row says, in order
@@ -105,7 +107,7 @@ module _ (x : Explores) (g : Shape) (wake : WakeSet) where
     No_numbers : IsSmall g → text ≡ no_numbers_json → IsTold limit text
 
 -- that of the graph of a text, or the fault for which there is none
-abbrev pub IsOutcomesAnswer : Led → WakeSet → ℕ → List ℕ → List ℕ → Type 0
+abbrev pub IsOutcomesAnswer : Protocol → WakeSet → ℕ → List ℕ → List ℕ → Type 0
 IsOutcomesAnswer p wake limit graph text =
     ((g : Shape) × IsTextOf graph g × IsTold (explores_by p) g wake (at_least_1 limit) text)
     ⊎ ((fault : HandFault) × HasNoGraph graph fault × (text ≡ fault_json fault))

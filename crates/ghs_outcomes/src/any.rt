@@ -10,7 +10,6 @@ use peer_explore::fault::ExploreFault;
 use peer_explore::laws::law_range;
 use peer_explore::watch::Unwatched;
 use peer_machine::explorable::{Explorable, Finite};
-use peer_machine::fixed::Fixed;
 use peer_network::wake_set::WakeSet;
 use peer_report::explored_text::explored_text;
 use peer_trace::protocol::Protocol;
@@ -18,18 +17,20 @@ use peer_trace::trace::write_trace_of;
 use peer_words::spoken::Spoken;
 use std::alloc::{AllocError, Global};
 
-/// What is told of all runs of a graph. Stored runs name the protocol. Refusal: out of memory.
-pub(crate) fn told_by<P: Explorable + Finite + Spoken + Fixed>(
+/// What is told of all runs of a graph by this setting. Stored runs name the protocol. Refusal: out of memory.
+pub(crate) fn told_by<P: Explorable + Finite + Spoken>(
     alloc: Global,
+    setting: P::Setting,
     protocol: Protocol,
     wake: WakeSet,
     limit: u32,
     graph: &Graph,
 ) -> Result<Vec<u8>, AllocError>
-    requires { 1 ≤ limit }
+    requires setting { P.goes_by setting }
+    requires limit { 1 ≤ limit }
     ensures { IfOk result (λ text. IsTold (by_any P.rules P.words.kind P.bound protocol) graph.now wake limit text.items) }
 {
-    match explore_watched::<P, Unwatched>(alloc, P::setting(), graph, wake, limit, &Unwatched) {
+    match explore_watched::<P, Unwatched>(alloc, setting, graph, wake, limit, &Unwatched) {
         Ok(explored) => outcomes_text(alloc, protocol, wake, limit, graph, &explored),
         Err(ExploreFault::TooLarge) => too_large(alloc),
         Err(ExploreFault::TooMany) => too_many(alloc, limit),

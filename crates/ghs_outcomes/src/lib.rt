@@ -11,6 +11,5 @@
 
 mod any;
 mod ghs;
-pub mod led;
 pub mod outcomes;
 mod words;

@@ -8,9 +8,10 @@ ghost use Rattle.std.specs.Prelude.{◌≡◌, ◌≤◌, IfErr, IfOk};
 
 use crate::any::told_by;
 use crate::ghs::told_by_ghs;
-use crate::led::Led;
 use boruvka::protocol::Boruvka;
+use bumpalo::Bump;
 use echo::protocol::Echo;
+use gather::protocol::Gather;
 use ghs_graph::graph::Graph;
 use peer_hand::fault::HandFault;
 use peer_hand::handing::hand_over;
@@ -25,12 +26,12 @@ use std::alloc::{AllocError, Global};
 /// it was.
 ///
 /// ```text
-/// let count = hand_outcomes(alloc, Led::Ghs, WakeSet::All, 10_000, b"p sp 2 1\na 1 2 5", &mut out);
+/// let count = hand_outcomes(alloc, Protocol::Ghs, WakeSet::All, 10_000, b"p sp 2 1\na 1 2 5", &mut out);
 /// // where count is at most out.len(), out[..count] is the text, which begins with the line of the first row
 /// ```
 pub fn hand_outcomes(
     alloc: Global,
-    protocol: Led,
+    protocol: Protocol,
     wake: WakeSet,
     limit: u32,
     graph: &[u8],
@@ -48,7 +49,7 @@ pub fn hand_outcomes(
 /// What is told of all runs of a graph's text.
 fn answer_of(
     alloc: Global,
-    protocol: Led,
+    protocol: Protocol,
     wake: WakeSet,
     limit: u32,
     graph: &[u8],
@@ -64,7 +65,7 @@ fn answer_of(
 /// What is told of all runs of a graph by a protocol.
 fn told(
     alloc: Global,
-    protocol: Led,
+    protocol: Protocol,
     wake: WakeSet,
     limit: u32,
     graph: &Graph,
@@ -73,9 +74,13 @@ fn told(
     ensures { IfOk result (λ text. IsTold (explores_by protocol) graph.now wake limit text.items) }
 {
     match protocol {
-        Led::Ghs => told_by_ghs(alloc, wake, limit, graph),
-        Led::Boruvka => told_by::<Boruvka>(alloc, Protocol::Boruvka, wake, limit, graph),
-        Led::Echo => told_by::<Echo>(alloc, Protocol::Echo, wake, limit, graph),
+        Protocol::Ghs => told_by_ghs(alloc, wake, limit, graph),
+        Protocol::Boruvka => told_by::<Boruvka>(alloc, (), Protocol::Boruvka, wake, limit, graph),
+        Protocol::Echo => told_by::<Echo>(alloc, (), Protocol::Echo, wake, limit, graph),
+        Protocol::Gather => {
+            let lists = Bump::new(alloc);
+            told_by::<Gather>(alloc, &lists, Protocol::Gather, wake, limit, graph)
+        }
     }
 }
 

@@ -16,9 +16,10 @@ ghost use Rattle.peer_hand.specs.Handing.{IsHandedOver};
 ghost use Rattle.std.specs.Prelude.{◌≡◌};
 
 use boruvka::protocol::Boruvka;
+use bumpalo::Bump;
 use echo::protocol::Echo;
+use gather::protocol::Gather;
 use ghs_hand::{answers as ghs, timed as ghs_timed};
-use ghs_outcomes::led::Led;
 use ghs_outcomes::outcomes::hand_outcomes;
 use peer_hand::answers::{hand_run, hand_seen};
 use peer_hand::timed::hand_timed;
@@ -27,9 +28,9 @@ use peer_trace::protocol::Protocol;
 use std::alloc::Global;
 
 /// What a page is told of the world to which a graph's text and a trace's text lead by a protocol, or the fault for which they
-/// lead to none. By themselves wake all nodes, or the first of each piece. The protocol is GHS (0), Borůvka in step (1) or the
-/// echo wave (any other number). The answer is how many bytes that has; where they fit into `out` they are its front, and else it
-/// is as it was.
+/// lead to none. By themselves wake all nodes, or the first of each piece. The protocol is GHS (0), Borůvka in step (1), the
+/// echo wave (2) or Gather (any other number). The answer is how many bytes that has; where they fit into `out` they are its
+/// front, and else it is as it was.
 ///
 /// ```text
 /// // in JavaScript: by GHS; an address and a length for each text and for the room of the answer, all of them BigInt
@@ -84,9 +85,9 @@ pub extern "C" fn ghs_web_run(
 }
 
 /// The run of a graph's text that a seed picks by rounds, from the opening on until it has ended: a line of how many rounds it
-/// has, and the trace's text; or the fault for which there is none. The protocol is GHS (0), Borůvka in step (1) or the echo wave
-/// (any other number). The answer is how many bytes that has; where they fit into `out` they are its front, and else it is as it
-/// was.
+/// has, and the trace's text; or the fault for which there is none. The protocol is GHS (0), Borůvka in step (1), the echo wave
+/// (2) or Gather (any other number). The answer is how many bytes that has; where they fit into `out` they are its front, and
+/// else it is as it was.
 ///
 /// ```text
 /// // in JavaScript: by Borůvka in step, of seed 7
@@ -107,8 +108,9 @@ pub extern "C" fn ghs_web_timed(
 }
 
 /// With which counts all runs of a graph's text end by a protocol, how many states they lead to, and a run of each count; or
-/// what stands against it, as more states than the limit. The protocol is GHS (0), Borůvka in step (1) or the echo wave (any
-/// other number). The answer is how many bytes that has; where they fit into `out` they are its front, and else it is as it was.
+/// what stands against it, as more states than the limit. The protocol is GHS (0), Borůvka in step (1), the echo wave (2) or
+/// Gather (any other number). The answer is how many bytes that has; where they fit into `out` they are its front, and else it is
+/// as it was.
 ///
 /// ```text
 /// // in JavaScript: by GHS, and no more than 2,000 states
@@ -138,7 +140,7 @@ pub extern "C" fn ghs_web_outcomes(
 /// What a page is told, by a protocol.
 fn seen_by(
     alloc: Global,
-    protocol: Led,
+    protocol: Protocol,
     wake: WakeSet,
     graph: &[u8],
     trace: &[u8],
@@ -147,16 +149,28 @@ fn seen_by(
     ensures { IsHandedOver (IsSeenBy protocol wake graph.now trace.now) result out.old out.new }
 {
     match protocol {
-        Led::Ghs => ghs::hand_seen(alloc, wake, graph, trace, out),
-        Led::Boruvka => hand_seen::<Boruvka>(alloc, Protocol::Boruvka, wake, graph, trace, out),
-        Led::Echo => hand_seen::<Echo>(alloc, Protocol::Echo, wake, graph, trace, out),
+        Protocol::Ghs => ghs::hand_seen(alloc, wake, graph, trace, out),
+        Protocol::Boruvka => hand_seen::<Boruvka>(
+            alloc,
+            (),
+            Protocol::Boruvka,
+            wake,
+            graph,
+            trace,
+            out,
+        ),
+        Protocol::Echo => hand_seen::<Echo>(alloc, (), Protocol::Echo, wake, graph, trace, out),
+        Protocol::Gather => {
+            let lists = Bump::new(alloc);
+            hand_seen::<Gather>(alloc, &lists, Protocol::Gather, wake, graph, trace, out)
+        }
     }
 }
 
 /// The run that goes on, by a protocol.
 fn run_by(
     alloc: Global,
-    protocol: Led,
+    protocol: Protocol,
     wake: WakeSet,
     graph: &[u8],
     trace: &[u8],
@@ -167,9 +181,10 @@ fn run_by(
     ensures { IsHandedOver (IsRunBy protocol wake graph.now trace.now patient seed) result out.old out.new }
 {
     match protocol {
-        Led::Ghs => ghs::hand_run(alloc, wake, graph, trace, patient, seed, out),
-        Led::Boruvka => hand_run::<Boruvka>(
+        Protocol::Ghs => ghs::hand_run(alloc, wake, graph, trace, patient, seed, out),
+        Protocol::Boruvka => hand_run::<Boruvka>(
             alloc,
+            (),
             Protocol::Boruvka,
             wake,
             graph,
@@ -177,14 +192,36 @@ fn run_by(
             seed,
             out,
         ),
-        Led::Echo => hand_run::<Echo>(alloc, Protocol::Echo, wake, graph, trace, seed, out),
+        Protocol::Echo => hand_run::<Echo>(
+            alloc,
+            (),
+            Protocol::Echo,
+            wake,
+            graph,
+            trace,
+            seed,
+            out,
+        ),
+        Protocol::Gather => {
+            let lists = Bump::new(alloc);
+            hand_run::<Gather>(
+                alloc,
+                &lists,
+                Protocol::Gather,
+                wake,
+                graph,
+                trace,
+                seed,
+                out,
+            )
+        }
     }
 }
 
 /// The run by rounds, by a protocol.
 fn timed_by(
     alloc: Global,
-    protocol: Led,
+    protocol: Protocol,
     wake: WakeSet,
     graph: &[u8],
     seed: u64,
@@ -193,20 +230,33 @@ fn timed_by(
     ensures { IsHandedOver (IsTimedBy protocol wake graph.now seed) result out.old out.new }
 {
     match protocol {
-        Led::Ghs => ghs_timed::hand_timed(alloc, wake, graph, seed, out),
-        Led::Boruvka => hand_timed::<Boruvka>(alloc, Protocol::Boruvka, wake, graph, seed, out),
-        Led::Echo => hand_timed::<Echo>(alloc, Protocol::Echo, wake, graph, seed, out),
+        Protocol::Ghs => ghs_timed::hand_timed(alloc, wake, graph, seed, out),
+        Protocol::Boruvka => hand_timed::<Boruvka>(
+            alloc,
+            (),
+            Protocol::Boruvka,
+            wake,
+            graph,
+            seed,
+            out,
+        ),
+        Protocol::Echo => hand_timed::<Echo>(alloc, (), Protocol::Echo, wake, graph, seed, out),
+        Protocol::Gather => {
+            let lists = Bump::new(alloc);
+            hand_timed::<Gather>(alloc, &lists, Protocol::Gather, wake, graph, seed, out)
+        }
     }
 }
 
 /// The protocol of a number.
-fn protocol_of(number: u32) -> Led
+fn protocol_of(number: u32) -> Protocol
     ensures { result ≡ protocol_of number }
 {
     match number {
-        0 => Led::Ghs,
-        1 => Led::Boruvka,
-        _ => Led::Echo,
+        0 => Protocol::Ghs,
+        1 => Protocol::Boruvka,
+        2 => Protocol::Echo,
+        _ => Protocol::Gather,
     }
 }
 

@@ -27,11 +27,12 @@ use peer_trace::mark::OwnMark;
 use peer_trace::own::write_own_trace;
 use std::alloc::{AllocError, Global};
 
-/// Explores all runs of a small network by a book, and writes with which counts of messages they end, or the events of the run that is
-/// asked for. It says how that ends: where some run lacks an answer, all questions that the runs lack go out in their place; and where
-/// none does but a node stops by an answer, or a run can't be brought to an end, what is said of that, and the events of a run that
-/// leads there. The text is made whole before its first byte goes out. Faults: the greeting has more than eight kinds; the network is too large; and then, whichever is met first,
-/// more states than the limit, more parts than the search has numbers, lack of memory; no such row; and then a write that fails.
+/// Explores all runs of a small network by a book, and writes with which counts of messages they end, or the events of the run that
+/// is asked for. It says how that ends: where some run lacks an answer, all questions that the runs lack go out in their place; and
+/// where none does but a node stops by an answer, or a run can't be brought to an end, what is said of that, and the events of a
+/// run that leads there. The text is made whole before its first byte goes out. Faults: the greeting has more than eight kinds; the
+/// network is too large; and then, whichever is met first, more states than the limit, more parts than the search has numbers, lack
+/// of memory; no such row; and then a write that fails.
 ///
 /// ```text
 /// let end = explore_by_book(alloc, &options, &graph, book, None, &mut out)?;

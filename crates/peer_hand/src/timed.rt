@@ -8,7 +8,6 @@ use crate::handing::hand_over;
 use crate::texts::graph_of;
 use ghs_lines::numbers::put_number;
 use peer_machine::ends::Ends;
-use peer_machine::fixed::Fixed;
 use peer_network::event::Event;
 use peer_network::wake_set::WakeSet;
 use peer_picking::rounds_run::run_rounds;
@@ -26,39 +25,43 @@ use std::alloc::{AllocError, Global};
 /// `out` they are its front, and else it is as it was.
 ///
 /// ```text
-/// let count = hand_timed::<Echo>(alloc, Protocol::Echo, WakeSet::First, b"p sp 3 2\na 1 2 5\na 2 3 7", 7, &mut out);
+/// let count = hand_timed::<Echo>(alloc, (), Protocol::Echo, WakeSet::First, b"p sp 3 2\na 1 2 5\na 2 3 7", 7, &mut out);
 /// // {"rounds":4} and behind it the text of `ghs run --protocol echo --schedule rounds --wake first --seed 7 --print trace`
 /// ```
-pub fn hand_timed<P: Ends + Fixed>(
+pub fn hand_timed<P: Ends>(
     alloc: Global,
+    setting: P::Setting,
     protocol: Protocol,
     wake: WakeSet,
     graph: &[u8],
     seed: u64,
     out: &mut [u8],
 ) -> usize
+    requires { P.goes_by setting }
     ensures { IsHandedOver (IsTimedAnswer P.rules P.has_ended protocol wake graph.now seed) result out.old out.new }
 {
     hand_over(
         alloc,
-        timed_of::<P>(alloc, protocol, wake, graph, seed),
+        timed_of::<P>(alloc, setting, protocol, wake, graph, seed),
         out,
     )
 }
 
 /// The rounds and the text of the run of a graph's text that a seed picks by rounds.
-fn timed_of<P: Ends + Fixed>(
+fn timed_of<P: Ends>(
     alloc: Global,
+    setting: P::Setting,
     protocol: Protocol,
     wake: WakeSet,
     graph: &[u8],
     seed: u64,
 ) -> Result<Vec<u8>, HandFault>
+    requires { P.goes_by setting }
     ensures text { IfOk result (λ text. IsTimedText P.rules P.has_ended protocol wake graph.now seed text.items) }
     ensures fault { IfErr result (λ fault. HasNoTime P.rules P.has_ended wake graph.now seed fault) }
 {
     let graph = graph_of(alloc, graph)?;
-    let Ok(mut world) = World::<P>::open(alloc, P::setting(), graph, wake) else {
+    let Ok(mut world) = World::<P>::open(alloc, setting, graph, wake) else {
         return Err(HandFault::Memory);
     };
     let (rounds, end) = run_rounds(alloc, &mut world, &mut Schedule::seeded(seed), EVENT_LIMIT);
