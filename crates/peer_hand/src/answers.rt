@@ -18,8 +18,8 @@ use peer_words::viewed::Viewed;
 use std::alloc::Global;
 
 /// What a page is told of the world of the protocol P, which stored runs name so, by this setting, to which a graph's text and a
-/// trace's text lead, or the fault for which they lead to none. The answer is how many bytes that has; where they fit into `out` they are its
-/// front, and else it is as it was.
+/// trace's text lead, or the fault for which they lead to none. The answer is how many bytes that has; where they fit into `out`
+/// they are its front, and else it is as it was.
 ///
 /// ```text
 /// let count = hand_seen::<Echo>(alloc, (), Protocol::Echo, WakeSet::All, b"p sp 2 1\na 1 2 5", b"trace echo 0", &mut out);

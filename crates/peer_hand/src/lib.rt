@@ -6,9 +6,9 @@
 //! seed (`IsRunAnswer`). An event is offered exactly where the trace with it added is a run (`law_offered`). `hand_over` hands
 //! over any text, or the line of a fault.
 //!
-//! An answer that doesn't fit into the buffer changes nothing, and says how long it is (`IsHandedOver`). No call has a
-//! precondition. A protocol whose runs end in silence defers nothing, so no offer is said to wait. Next: `ghs_hand`, the same of
-//! GHS, whose nodes defer.
+//! An answer that doesn't fit into the buffer changes nothing, and says how long it is (`IsHandedOver`). A call asks for nothing
+//! but a setting by which P goes (`goes_by`). A protocol whose runs end in silence defers nothing, so no offer is said to wait.
+//! Next: `ghs_hand`, the same of GHS, whose nodes defer.
 #![tactic(auto)]
 
 pub mod answers;
