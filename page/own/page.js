@@ -44,7 +44,7 @@ async function ready() {
   keep();
   return here.rules;
 }
-const options = () => ({ wake: here.wake, end: $('end').value, check: $('check').value, limit: Math.max(1, Math.min(500000, +$('limit').value || 1)) });
+const options = () => ({ wake: here.wake, end: $('end').value, check: $('check').value, fails: $('fault').value === 'overtake' ? 1 : $('fault').value, limit: Math.max(1, Math.min(500000, +$('limit').value || 1)) });
 const seedNow = () => { const s = $('seed').value; if (!/^\d{1,20}$/.test(s) || BigInt(s) >= 1n << 64n) throw new Refused('A seed is a whole number below 2^64.'); return s; };
 function keep() { try { for (const id of ['rules', 'graph']) sessionStorage.setItem('own.' + id, id === 'rules' && (here.book || here.off) ? here.book && here.rulesText || '' : $(id).value); } catch { /* then nothing is kept */ } }
 
@@ -61,8 +61,8 @@ const pause = {
     this.next = performance.now() + 60;
   },
 };
-// where an assumption of the network is switched off, only the search for what breaks knows of it
-function allow() { for (const b of document.querySelectorAll('#acts button')) b.disabled = b.id === 'stop' || !!here.off?.net; }
+// where an assumption of the network is switched off, only the search for what breaks and a run by hand know of it
+function allow() { for (const b of document.querySelectorAll('#acts button')) b.disabled = b.id === 'stop' || !!here.off?.net && b.id !== 'hand'; }
 function tell(how, html) { $('verdict').className = how; $('verdict').innerHTML = html; }
 const table = rows => '<table>' + rows.filter(r => r[1] !== undefined && r[1] !== '').map(([a, b]) => '<tr><th>' + a + '</th><td>' + escaped(b) + '</td></tr>').join('') + '</table>';
 const orderText = events => events.length ? (events.length > 1000 ? '.. the last 1000: ' : '') + events.slice(-1000).map(eventText).join('; ') : 'none: before the first event';
@@ -89,15 +89,18 @@ async function command(f) {
   }
 }
 async function tellFault(e) {
-  const events = e.events || [];
-  tell('wrong', '<p><b>' + e.name + '</b>: ' + escaped(e.message) + '.</p>' + table([
+  const events = e.events || [], at = failures(events);
+  tell('wrong', '<p><b>' + e.name + '</b>: ' + escaped(e.message) + '.</p>' + (at.length ? '<p>' + failedText(at) + '</p>' : '') + table([
     ['question', e.question], ['answer', e.answer === undefined ? 'none' : e.answer],
     ['events that led there', events.length ? events.length + ': ' + orderText(events) : orderText(events)]]));
   if (events.length && here.rules) await open(events.slice(0, -1));
 }
-async function open(events) {
+function opening() {
   here.breaks = null;
-  here.net = new Net(here.rules, here.wake, here.off?.net);
+  return here.net = new Net(here.rules, here.wake, here.off?.net);
+}
+async function open(events) {
+  opening();
   for (const e of events) await here.net.play(e);
 }
 const listed = list => list.length ? list.slice(0, 24).join(', ') + (list.length > 24 ? ', and ' + (list.length - 24) + ' more' : '') : 'none';
@@ -106,10 +109,75 @@ const ENDS = { halted: 'ended, each component with a halted node', quiet: 'ended
 async function runOne(rules, o) {
   const net = new Net(rules, o.wake), seed = seedNow();
   here.net = net;
-  const end = await runBy(net, seed, o.end, LIMITS.turns, pause), wrong = end === 'stuck' || end === 'turns' ? null : wrongAtEnd(net.graph, net.state, o.check);
-  const bad = wrong || end === 'stuck' || end === 'turns';
-  tell(bad ? 'wrong' : '', '<p>The run of seed ' + seed + ' ' + ENDS[end] + ': ' + many(net.steps.length, 'event') + ', ' + many(net.total, 'message') + ', ' + net.deferred + ' deferred.</p>' + (wrong ? '<p>It ends wrong: ' + escaped(wrong) + '.</p>' : '') +
-    table([['messages', rules.kinds.map(k => k + '=' + net.sent[k]).join(' ')], ['marked links', marksText(net.marked())], ['minimum spanning forest', listed(net.graph.forest)], ['questions', rules.book.size + ' in the book']]));
+  tell(...cameTo('The run of seed ' + seed, net, await runBy(net, seed, o.end, LIMITS.turns, pause), o.check));
+}
+const counted = net => many(net.at, 'event') + ', ' + many(net.total, 'message') + ', ' + net.deferred + ' deferred';
+// what a run came to at the moment that is looked at, which is its end
+function cameTo(head, net, end, check) {
+  const cut = end === 'stuck' || end === 'turns', wrong = cut ? null : wrongAtEnd(net.graph, net.state, check);
+  return [wrong || cut ? 'wrong' : '', '<p>' + head + ' ' + ENDS[end] + ': ' + counted(net) + '.</p>' + (wrong ? '<p>It ends wrong: ' + escaped(wrong) + '.</p>' : '') +
+    table([['messages', net.rules.kinds.map(k => k + '=' + net.sent[k]).join(' ')], ['marked links', marksText(net.marked())], ['minimum spanning forest', listed(net.graph.forest)], ['questions', net.rules.book.size + ' in the book']])];
+}
+
+// ---- a run that is led by hand, event by event
+// what may happen next: before there is a run, the wakes of its opening
+const mayNext = () => here.net ? here.net.ready() : here.graph ? wakers(here.graph, $('wake').value).flatMap((may, v) => may ? [[v, null]] : []) : [];
+function byHand(rules, o, why = '') {
+  opening();
+  tellLed(o, why);
+}
+// an event that is chosen takes the place of all that followed the moment that is looked at
+function lead(event) {
+  const was = here.net;
+  return command(async (rules, o) => {
+    if (was && was !== here.net) return byHand(rules, o, 'The rules or the graph have changed, so a run begins anew. ');
+    await choose(here.net || opening(), event);
+    tellLed(o);
+  });
+}
+async function choose(net, event) {
+  const steps = net.steps;
+  if (!net.lawful(event)) throw new Refused('This event may not happen at this moment.');
+  if (net.at >= LIMITS.turns || net.total > LIMITS.messages) throw new Refused('The run is too long to be led on.');
+  net.cut();
+  try { await net.play(event); } catch (e) {
+    if (e instanceof NodeFault) e.events = [...net.events(), event];
+    net.steps = steps;
+    throw e;
+  }
+  if (here.breaks?.at >= net.at) here.breaks = null;
+}
+// the first moment up to this one at which the run is over, if it is
+function overAt(net, end) {
+  const now = net.at, halts = net.steps.slice(0, now).flatMap((s, i) => s.told.halts && !isOn(s.old, 'halted') ? [i + 1] : []);
+  const first = [0, ...halts].find(k => { net.goto(k); return net.over(end); });
+  net.goto(now);
+  return first;
+}
+function tellLed(o, why = '') {
+  const net = here.net, now = net.at, over = overAt(net, o.end), head = 'The run that is led by hand', quiet = !net.ready().length;
+  if (over === undefined && !quiet) return tell('', '<p>' + why + head + ': ' + counted(net) + '. Choose what happens next.</p>');
+  net.goto(over ?? now);
+  const [how, words] = cameTo(why + head, net, over !== undefined ? 'halted' : o.end === 'halted' ? 'stuck' : 'quiet', o.check);
+  net.goto(now);
+  tell(how, words + (over < now ? '<p>It has gone on to event ' + now + (quiet ? ', and nothing may happen any more' : '') + '.</p>' : ''));
+}
+const button = (event, text, name) => '<button data-event="' + escaped(JSON.stringify(event)) + '"' + (name ? ' title="' + escaped(name) + '" aria-label="' + escaped(name) + '"' : '') + '>' + escaped(text) + '</button>';
+function lineOfNext([v, p]) {
+  if (p === null) return '<li>' + button([v, p], 'node ' + v + ' wakes') + '</li>';
+  const queue = here.net.queues[v][p], on = ' on port ' + p + ', from node ' + here.graph.ports[v][p].far;
+  const fails = !$('fails').checked ? [] : [[[v, p, 'lose'], 'lose', queue[0] + ' to node ' + v], [[v, p, 'twice'], 'twice', queue[0] + ' to node ' + v], ...(queue.length > 1 ? [[[v, p, 1], 'overtake', 'node ' + v + ' takes ' + queue[1] + ' past ' + queue[0]]] : [])];
+  return '<li>' + button([v, p], 'node ' + v + ' takes ' + queue[0] + on) + fails.map(([event, word, what]) => ' ' + button(event, word, word + ': ' + what + on)).join('') + '</li>';
+}
+function showNext(next) {
+  const buttons = () => [...$('next').querySelectorAll('button')], at = buttons().indexOf(document.activeElement);
+  $('next').innerHTML = next.length ? '<ol>' + next.map(lineOfNext).join('') + '</ol>' : 'nothing';
+  if (at >= 0) (buttons()[at] || buttons().at(-1))?.focus({ preventScroll: true });
+}
+// in the list and in the drawing
+function leadBy(e) {
+  const at = e.target.closest('[data-event]');
+  if (at) lead(JSON.parse(at.dataset.event));
 }
 async function hundred(rules, o) {
   const ends = {}, marks = new Map(), sums = [];
@@ -130,20 +198,21 @@ async function hundred(rules, o) {
 }
 const between = (least, most) => least === most ? least : least + ' to ' + most;
 const tooMany = told => '<p>There are more than ' + told.states + ' states. The search stops here and says nothing of the rest: take a smaller network, or allow more states.</p>';
+const FAILS = { lose: 'loses one message', twice: 'delivers one message twice', 1: 'lets one message overtake the one in front of it' };
 async function orders(rules, o) {
-  const told = await allOrders(rules, o, pause);
-  if (told.many) return tell('wrong', tooMany(told));
+  const told = await allOrders(rules, o, pause), may = o.fails ? '<p>In each of these orders the network may fail once: it ' + FAILS[o.fails] + '. Nothing that is proved holds of that.</p>' : '';
+  if (told.many) return tell('wrong', tooMany(told) + may);
   if (told.wrong) {
     await open(told.way);
-    return tell('wrong', '<p>An order of ' + many(told.way.length, 'event') + ' ends wrong: ' + escaped(told.wrong) + '. No shorter order does.</p>' + table([['order', orderText(told.way)], ['states seen', told.states]]));
+    return tell('wrong', '<p>An order of ' + many(told.way.length, 'event') + ' ends wrong: ' + escaped(told.wrong) + '. No shorter order does.</p>' + may + table([['order', orderText(told.way)], ['states seen', told.states]]));
   }
   if (told.lost) {
     await open(told.way);
-    return tell('wrong', told.way.length ? '<p>After an order of ' + many(told.way.length, 'event') + ' no order ends any more. No shorter order leads there.</p>' + table([['order', orderText(told.way)], ['states', told.states]]) : '<p>No order of this network ends: ' + many(told.states, 'state') + '.</p>');
+    return tell('wrong', (told.way.length ? '<p>After an order of ' + many(told.way.length, 'event') + ' no order ends any more. No shorter order leads there.</p>' + table([['order', orderText(told.way)], ['states', told.states]]) : '<p>No order of this network ends: ' + many(told.states, 'state') + '.</p>') + may);
   }
   const sums = told.ends.map(c => c.reduce((a, b) => a + b, 0));
   told.ends.sort((a, b) => a.reduce((x, y) => x + y, 0) - b.reduce((x, y) => x + y, 0));
-  tell('', '<p>All orders of this network: ' + many(told.states, 'state') + ', ' + many(told.events, 'event') + ' tried, and each order that ends is right. They end with ' + between(Math.min(...sums), Math.max(...sums)) + ' messages.</p>' +
+  tell('', '<p>All orders of this network: ' + many(told.states, 'state') + ', ' + many(told.events, 'event') + ' tried, and each order that ends is right. They end with ' + between(Math.min(...sums), Math.max(...sums)) + ' messages.</p>' + may +
     table(told.ends.slice(0, 40).map(c => [c.reduce((a, b) => a + b, 0), rules.kinds.map((k, i) => k + '=' + c[i]).join(' ')])));
 }
 const saidKind = k => k === 'changeroot' ? 'ChangeRoot' : k[0].toUpperCase() + k.slice(1);
@@ -218,16 +287,25 @@ function showRule() {
   $('edit').hidden = !rule?.edits;
   $('edit').innerHTML = rule ? changedLines(rule).map(([tag, line]) => '<' + tag + '>' + escaped(line.trim()) + '</' + tag + '>').join('') : '';
 }
-// marks the page as long as a rule is off
 function switched(rule) {
   here.off = rule;
   here.breaks = null;
-  document.documentElement.classList.toggle('off', !!rule);
   if (!busy) allow();
-  $('odd').hidden = $('on').hidden = !rule;
-  $('odd').textContent = rule ? NOT + '. Switched off: ' + rule.rule : '';
-  $('claim').textContent = rule ? NOT + ': a rule is switched off. Nothing that this page shows of it is proved.' : here.claim;
+  $('on').hidden = !rule;
+  markOdd();
   showRule();
+}
+const failedText = at => 'The network has failed at event' + (at.length > 1 ? 's ' : ' ') + listed(at) + ': nothing that is proved holds of this run.';
+// marks the page as long as a rule is off, or the run has an event at which the network has failed
+function markOdd() {
+  const rule = here.off, at = here.net ? failures(here.net.events()) : [], words = [];
+  if (rule) words.push(NOT + '. Switched off: ' + rule.rule);
+  if (at.length) words.push(failedText(at));
+  document.documentElement.classList.toggle('off', words.length > 0);
+  $('odd').hidden = !words.length;
+  $('odd').textContent = words.join(' ');
+  $('claim').textContent = rule ? NOT + ': a rule is switched off. Nothing that this page shows of it is proved.' : at.length ? 'The network has failed in this run: nothing that is proved holds of it.' : here.claim;
+  $('traceodd').hidden = !at.length;
 }
 function switchOn() {
   if (busy) return;
@@ -306,7 +384,7 @@ async function breaks(rules, o) {
 async function openBroken(fault) {
   const f = here.broken.get(fault);
   await open([...f.way, ...(f.round || [])]);
-  here.breaks = { at: f.way.length, words: WHY.faults[fault] + ': ' + f.words };
+  here.breaks = { net: here.net, at: f.way.length, words: WHY.faults[fault] + ': ' + f.words };
 }
 
 const suit = name => { for (const k in SUITS[name]) $(k).value = SUITS[name][k]; };
@@ -358,7 +436,10 @@ function placesOf(graph, width, height) {
   return at.map(s => [width / 2 + (s[0] - x0) * unit, height / 2 + (s[1] - y0) * unit]);
 }
 const LOOKS = { branch: 'tree', rejected: 'closed' };
-function draw(net, step) {
+// what may be chosen by a click
+const chosen = event => ({ 'data-event': JSON.stringify(event) });
+function draw(net, step, next) {
+  const wakes = next.filter(e => e[1] === null).map(e => e[0]);
   const svg = $('net'), graph = here.graph, width = Math.max(330, Math.min(640, svg.clientWidth || 640)), height = graph.nodes > 12 ? 480 : 300, pairs = new Map(), r = graph.nodes > 30 ? 11 : 15;
   if (here.width !== width) Object.assign(here, { width, places: null });
   const at = here.places ??= placesOf(graph, width, height);
@@ -375,8 +456,8 @@ function draw(net, step) {
       const list = net ? net.queues[v][p] : [], d = Math.hypot(mx - x, my - y) || 1;
       list.slice(0, 3).forEach((m, i) => {
         const t = Math.min(.95, (r + 13 + 17 * i) / d), px = x + (mx - x) * t, py = y + (my - y) * t, fresh = step && step.told.sends.some(([port, text]) => step.v === far && port === q && text === m) && i === list.lastIndexOf(m);
-        const g = el('g', { class: 'pillmark' + (fresh ? ' fresh' : '') }, svg);
-        el('title', {}, g).textContent = m + ' waits at node ' + v + ', from node ' + far;
+        const g = el('g', { class: 'pillmark' + (fresh ? ' fresh' : ''), ...(i ? {} : chosen([v, p])) }, svg);
+        el('title', {}, g).textContent = m + ' waits at node ' + v + ', from node ' + far + (i ? '' : '; a click, and node ' + v + ' takes it');
         el('rect', { x: px - 8, y: py - 8, width: 16, height: 16, rx: 6 }, g);
         el('text', { x: px, y: py }, g).textContent = i === 2 && list.length > 3 ? '+' + (list.length - 2) : m[0].toUpperCase();
       });
@@ -384,22 +465,25 @@ function draw(net, step) {
     if (graph.links.length < 100) el('text', { class: 'weight', x: mx, y: my }, svg).textContent = l.weight;
   }
   for (let v = 1; v <= graph.nodes; v++) {
-    const state = net ? net.state[v] : '', g = el('g', { class: 'node' + (isOn(state, 'asleep') ? ' asleep' : '') + (isOn(state, 'halted') ? ' halted' : '') + (step && step.v === v ? ' at' : '') }, svg);
-    el('title', {}, g).textContent = 'node ' + v + (state ? ': ' + state : '');
+    const state = net ? net.state[v] : '', g = el('g', { class: 'node' + (isOn(state, 'asleep') ? ' asleep' : '') + (isOn(state, 'halted') ? ' halted' : '') + (step && step.v === v ? ' at' : ''), ...(wakes.includes(v) ? chosen([v, null]) : {}) }, svg);
+    el('title', {}, g).textContent = 'node ' + v + (state ? ': ' + state : '') + (wakes.includes(v) ? '; a click wakes it' : '');
     el('circle', { class: 'body', cx: at[v][0], cy: at[v][1], r }, g);
     el('circle', { class: 'stop', cx: at[v][0], cy: at[v][1], r: r + 5 }, g);
     el('text', { x: at[v][0], y: at[v][1] }, g).textContent = v;
   }
 }
 // what breaks at an event, in words
-const broken = at => here.breaks && here.breaks.at === at ? ' <b>Here it breaks: ' + escaped(here.breaks.words) + '.</b>' : '';
+const broken = at => here.breaks && here.breaks.net === here.net && here.breaks.at === at ? ' <b>Here it breaks: ' + escaped(here.breaks.words) + '.</b>' : '';
 function show() {
   const net = here.net, n = net ? net.steps.length : 0, at = net ? net.at : 0, step = at > 0 ? net.steps[at - 1] : null;
   $('seek').max = n;
   $('seek').value = at;
   $('count').textContent = net ? 'event ' + at + ' of ' + n : 'no run yet';
   for (const [id, off] of [['first', at === 0], ['back', at === 0], ['forth', at === n], ['last', at === n]]) $(id).disabled = !net || off;
-  if (here.graph) draw(net, step);
+  const next = mayNext();
+  if (here.graph) draw(net, step, next);
+  showNext(next);
+  markOdd();
   $('savebook').disabled = !here.last || !here.last.book.size;
   $('savetrace').disabled = !net;
   $('trace').textContent = net ? traceText(here.rules.name, net.events()) : '';
@@ -447,7 +531,11 @@ async function start() {
   $('network').onchange = e => { if (!e.target.value || busy) return; $('graph').value = NETWORKS[e.target.value]; fresh(); e.target.value = ''; };
   const fresh = here.fresh = () => { try { readGraph(); tell('', ''); } catch (e) { tell('wrong', '<p>' + escaped(e.message) + '</p>'); } show(); };
   $('graph').onchange = () => { if (!busy) fresh(); };
-  for (const [id, f] of [['run', runOne], ['hundred', hundred], ['orders', orders], ['compare', compare], ['compareall', compareAll]]) $(id).onclick = () => command(f);
+  $('wake').onchange = () => { if (busy) return; here.net = null; tell('', ''); show(); };
+  $('next').onclick = $('net').onclick = leadBy;
+  $('fails').checked = false;
+  $('fails').onchange = () => { if (!busy) show(); };
+  for (const [id, f] of [['run', runOne], ['hand', byHand], ['hundred', hundred], ['orders', orders], ['compare', compare], ['compareall', compareAll]]) $(id).onclick = () => command(f);
   $('stop').onclick = () => { stopped = true; here.halt?.(); };
   $('rule').onchange = showRule;
   $('smallest').onclick = takeSmallest;
@@ -471,8 +559,11 @@ async function start() {
   $('forth').onclick = () => move(here.net.at + 1);
   $('seek').oninput = e => move(+e.target.value);
   addEventListener('keydown', e => {
-    if (e.key === 'Enter' && e.ctrlKey) { e.preventDefault(); command(runOne); return; }
-    if (e.target.matches('textarea, input, select, .scroll') || e.ctrlKey || e.altKey || e.metaKey || !here.net) return;
+    if (e.key === 'Enter' && e.ctrlKey) { e.preventDefault(); if (!$('run').disabled) command(runOne); return; }
+    if (e.target.matches('textarea, select, input:not([type=checkbox], [type=range])') || e.ctrlKey || e.altKey || e.metaKey) return;
+    const event = /^[1-9]$/.test(e.key) && mayNext()[e.key - 1];
+    if (event) { e.preventDefault(); lead(event); return; }
+    if (e.target.matches('[type=range], .scroll') || !here.net) return;
     const to = { ArrowLeft: here.net.at - 1, ArrowRight: here.net.at + 1, Home: 0, End: Infinity }[e.key];
     if (to !== undefined) { e.preventDefault(); move(to); }
   });
