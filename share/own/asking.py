@@ -17,6 +17,10 @@ import threading
 
 HERE = os.path.dirname(os.path.realpath(__file__))
 NODES = os.path.join(HERE, "nodes")
+sys.dont_write_bytecode = True
+sys.path.append(NODES)
+import faulty  # noqa: E402
+
 # what a command says of a line of the book
 NO_ANSWER = re.compile(r"ghs: book: line (\d+): (?:not a question with an answer|more than)")
 LINE_BYTES = 1 << 20        # the bytes that a line of a book may have
@@ -93,9 +97,9 @@ class Node:
 
 
 class Book:
-    """A book in a file, and the program that fills it."""
+    """A book in a file, and the node that fills it, which it closes."""
 
-    def __init__(self, path, command, seconds, ghs):
+    def __init__(self, path, node, ghs):
         self.path, self.ghs, self.entries = path, ghs, {}
         with open(path, "a+b") as file:
             file.seek(0)
@@ -103,7 +107,7 @@ class Book:
             file.truncate(file.read().rfind(b"\n") + 1)
         for question, answer in self._lines():
             self.entries.setdefault(question, answer)
-        self.node = Node(command, seconds)
+        self.node = node
         # what a program knows its nodes by comes first, whoever asked it before
         for question in [it for it in self.entries if it.startswith(("own ", "open "))]:
             self._ask(question)
@@ -172,6 +176,17 @@ def parser_of(head):
     return parser
 
 
+def node_of(parser, words):
+    """The node's program, in a network that fails where the words say so."""
+    if not getattr(words, "faults", None):
+        return Node(words.command, words.seconds)
+    try:
+        faults = faulty.faults_of(words.faults)
+    except faulty.Refused as refused:
+        parser.error(str(refused))
+    return faulty.Served(faults, Node(words.command, words.seconds))
+
+
 def filled(parser, fill):
     """Fills a book as `fill` says of the book and the words given, and prints what the command of `ghs` says of it: the status."""
     parser.add_argument("--book", required=True, help="the file of the book, of one graph; it is made where it isn't there")
@@ -180,7 +195,7 @@ def filled(parser, fill):
     words = parser.parse_args()
     book = None
     try:
-        book = Book(words.book, words.command, words.seconds, words.ghs)
+        book = Book(words.book, node_of(parser, words), words.ghs)
         status, text, error = fill(book, words)
         if words.audit and status == 0:
             book.audit()
