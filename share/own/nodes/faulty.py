@@ -11,13 +11,12 @@ It answers for the program that COMMAND starts, in any language. FAULTS is one o
                  each message, by chance; what isn't named doesn't happen. The same seed gives the same faults
 
 A node's variable `network` says how many messages are left, `struck` once it has happened, and by chance how many were sent and taken.
-A sleeping node whose message comes late is awake, and wakes by that message alone.
+A sleeping node whose message comes late doesn't wake by itself any more: to `ghs` it is awake.
 """
 import hashlib
 import os
 import re
 import sys
-
 
 HERE = os.path.dirname(os.path.realpath(__file__))
 FAULTS = ('lose', 'twice', 'late')
