@@ -100,14 +100,21 @@ class Book:
     """A book in a file, and the node that fills it, which it closes."""
 
     def __init__(self, path, node, ghs):
-        self.path, self.ghs, self.entries = path, ghs, {}
-        with open(path, "a+b") as file:
+        self.path, self.node, self.ghs, self.entries = path, node, ghs, {}
+        try:
+            self._begin()
+        except (Fault, OSError):
+            node.close()
+            raise
+
+    def _begin(self):
+        """Reads what the file has."""
+        with open(self.path, "a+b") as file:
             file.seek(0)
             # what stands behind the last line feed may be cut off: it is asked again
             file.truncate(file.read().rfind(b"\n") + 1)
         for question, answer in self._lines():
             self.entries.setdefault(question, answer)
-        self.node = node
         # what a program knows its nodes by comes first, whoever asked it before
         for question in [it for it in self.entries if it.startswith(("own ", "open "))]:
             self._ask(question)
