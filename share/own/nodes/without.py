@@ -193,7 +193,7 @@ class Refused(Exception):
 def lines_of(name):
     """The lines that a rule changes."""
     if NETWORK.match(name):
-        raise Refused(f'{name}: no rule of a node, but what GHS assumes of the network; page/own.html and bench/why switch it off')
+        raise Refused(f'{name}: no rule of a node, but what GHS assumes of the network; page/own.html and bench/why switch it off, and share/own/faults lets messages fail')
     if name not in RULES: raise Refused(f'{name}: no such rule. There are: {", ".join(RULES)}')
     return RULES[name]
 
